@@ -1,0 +1,3 @@
+-- What the contracts of children cite.
+pub mod Below
+pub mod Marks

@@ -1,0 +1,57 @@
+-- Destroy, over the table. Assumes nothing: these are definitions.
+use mathlib.Core.Bool.{Bool, cond}
+use mathlib.Core.List.{List}
+use Prim.Native.Nat.{ℕ}
+use lib.Dec.{ltb}
+use Rattle.error.specs.declared.DpeErrorCode.{DpeErrorCode}
+use Rattle.error.specs.declared.DpeErrorCode.the-variants.{InternalError}
+use Rattle.error.specs.declared.InternalErrorCode.the-variants.{ContextIndexOob}
+use Rattle.error.specs.declared.Outcome.the-variants as outcome
+use Rattle.children.specs.declared.Answer.{Answer}
+use Rattle.children.specs.declared.Answer.the-variants.{Marks, Refused}
+use Rattle.children.specs.Below.{listOf}
+use Rattle.children.specs.Marks.{slotCount, marked, without}
+use Rattle.table.specs.declared.context.Context.{Context}
+use Rattle.table.specs.declared.state.State.{State}
+use Rattle.table.specs.declared.state.Found.{Found}
+use Rattle.table.specs.declared.state.Found.the-variants as found
+use Rattle.table.specs.Context.{destroyed, withChildren, slotOf}
+use Rattle.table.specs.State.{withContexts}
+use Rattle.forest.specs.Destroy.{doomedWord}
+use Rattle.lookup.specs.Lookup.{lookupIn}
+use Rattle.walks.specs.Walks.{descendantsIn, runIn}
+use Rattle.destroy_context.specs.declared.Destroyed.{Destroyed}
+
+-- the context c of slot i: cleared where the set has the slot, and else without the marks of the set, all 64 of them
+unfoldable pub clearedSlot : ℕ → ℕ → Context → Context
+clearedSlot set i c = cond (marked set i) (destroyed c) (withChildren c (without (c .children) set))
+
+-- every slot so
+unfoldable pub clearedBy : State → ℕ → State
+clearedBy t set = withContexts t (listOf (λ i. clearedSlot set i (slotOf (t .contexts) i)) slotCount)
+
+-- a refusal: the table as it was
+abbrev pub refusedBy : State → DpeErrorCode → Destroyed
+refusedBy t e = record { answer = outcome.Refused e; state = t }
+
+-- with the run above and the descendants: the slot, its descendants and the run are cleared
+unfoldable pub onDown : State → ℕ → ℕ → Answer → Destroyed
+onDown t slot run (Marks down) = record { answer = outcome.Done; state = clearedBy t (doomedWord down slot run) }
+onDown t slot run (Refused e) = refusedBy t e
+
+-- with the run above: then the descendants
+unfoldable pub onRun : State → ℕ → Answer → Destroyed
+onRun t slot (Marks run) = onDown t slot run (descendantsIn slotCount (slotOf (t .contexts)) slot)
+onRun t slot (Refused e) = refusedBy t e
+
+-- destroy of a slot: the walk up first
+unfoldable pub destroySlotOf : State → ℕ → Destroyed
+destroySlotOf t slot = cond (ltb slot slotCount) (onRun t slot (runIn slotCount (slotOf (t .contexts)) slot)) (refusedBy t (InternalError ContextIndexOob))
+
+unfoldable pub onFound : State → Found → Destroyed
+onFound t (found.At slot) = destroySlotOf t slot
+onFound t (found.Refused e) = refusedBy t e
+
+-- destroy by handle and locality
+unfoldable pub destroyOf : State → List ℕ → ℕ → Destroyed
+destroyOf t h l = onFound t (lookupIn slotCount (slotOf (t .contexts)) h l)

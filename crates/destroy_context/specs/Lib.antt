@@ -1,0 +1,2 @@
+-- What the contracts of destroy_context cite.
+pub mod Destroy

@@ -1,0 +1,97 @@
+// Destroy: a context goes, with all that is below it and the retired run above it. destroy_context.rs.
+use children::Answer;
+use children::MAX_HANDLES;
+use error::DpeErrorCode;
+use error::InternalErrorCode;
+use error::Outcome;
+use table::context::Context;
+use table::handle;
+use table::state::Found;
+use table::state::State;
+use walks::descendants;
+use walks::run;
+ghost use mathlib.Core.Path.{_≡_};
+ghost use Prim.Native.Nat.{_<_};
+ghost use Rattle.children.specs.Marks.{slotCount};
+ghost use Rattle.destroy_context.specs.Destroy.{clearedSlot, clearedBy, refusedBy, destroySlotOf, destroyOf};
+
+// How a destroy ended, and the table.
+pub struct Destroyed {
+    pub answer: Outcome,
+    pub state: State,
+}
+
+// A refusal: the table as it was.
+fn refused(t: State, e: DpeErrorCode) -> Destroyed
+    ensures { λ r. ⌜ r ≡ refusedBy t e ⌝ }
+{
+    Destroyed {
+        answer: Outcome::Refused(e),
+        state: t,
+    }
+}
+
+// The context of slot i: cleared where the set has the slot, and else without the marks of the set.
+pub fn cleared_slot(c: Context, i: usize, set: u64) -> Context
+    requires { ⌜ i < slotCount ⌝ }
+    ensures { λ r. ⌜ r ≡ clearedSlot set i c ⌝ }
+{
+    if children::has_child(set, i) {
+        return c.destroy();
+    }
+    let children = children::remove_children(c.children, set);
+    Context { children, ..c }
+}
+
+// The table with the slots of a set cleared, and their marks taken from every slot.
+pub fn cleared(t: State, set: u64) -> State
+    ensures { λ r. ⌜ r ≡ clearedBy t set ⌝ }
+{
+    let mut u = t;
+    for i in 0..MAX_HANDLES {
+        let c = u.contexts[i];
+        let d = cleared_slot(c, i, set);
+        u.contexts[i] = d;
+    }
+    u
+}
+
+// Destroys the context of a slot.
+pub fn destroy_slot(t: State, slot: usize) -> Destroyed
+    ensures { λ r. ⌜ r ≡ destroySlotOf t slot ⌝ }
+{
+    if slot >= MAX_HANDLES {
+        return refused(
+            t,
+            DpeErrorCode::InternalError(InternalErrorCode::ContextIndexOob),
+        );
+    }
+    let l = links::links_of(t);
+    let children = l.children;
+    let parents = l.parents;
+    let start = parents[slot];
+    let above = run::run_above(&children, &parents, l.retired, start);
+    let Answer::Marks(retired) = above else {
+        return refused(t, walks::why(above));
+    };
+    let below = descendants::descend(&children, l.live, children::empty(), slot, MAX_HANDLES);
+    let Answer::Marks(down) = below else {
+        return refused(t, walks::why(below));
+    };
+    let set = children::add_children(children::with(down, slot), retired);
+    Destroyed {
+        answer: Outcome::Done,
+        state: cleared(t, set),
+    }
+}
+
+// Destroys the active context of a locality that has a handle.
+pub fn destroy_context(t: State, handle: [u8; handle::SIZE], locality: u32) -> Destroyed
+    ensures { λ r. ⌜ r ≡ destroyOf t handle locality ⌝ }
+{
+    let found = lookup::get_active_context_pos(t, handle, locality);
+    let Found::At(slot) = found else {
+        return refused(t, lookup::why(found));
+    };
+    destroy_slot(t, slot)
+}

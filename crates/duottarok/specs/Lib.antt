@@ -1,0 +1,2 @@
+-- What the exported contracts cite.
+pub mod Exports

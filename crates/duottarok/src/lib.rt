@@ -1,0 +1,227 @@
+// The exported calls, over a lent image of 4,624 bytes. include/duottarok.h says what each asks of its pointers.
+use children::Answer;
+use children::MAX_HANDLES;
+use error::DpeErrorCode;
+use error::Outcome;
+use image::context;
+use image::state;
+use table::handle;
+use table::state::Found;
+use walks::descendants;
+use walks::path;
+ghost use mathlib.Core.Path.{_≡_};
+ghost use Rattle.error.specs.Numbers.{wordOf};
+ghost use Rattle.duottarok.specs.Exports.{validateAt, foundWord, foundPlace, marksWord, marksPlace, slotsPlace, imageAfter, handlePlace, destroyedAfter, lookupAt, initializeAt, rotateAt, destroyAt, descendantsAt, pathAt, lengthAt, countAt};
+
+fn wide(x: usize) -> u64
+    ensures { λ r. ⌜ r ≡ x ⌝ }
+{
+    x as u64
+}
+
+// The word of a refusal.
+fn refused(e: DpeErrorCode) -> u64
+    ensures { λ r. ⌜ r ≡ wordOf (Outcome.Refused e) ⌝ }
+{
+    error::word(Outcome::Refused(e))
+}
+
+// Whether the table meets the forest rule; else its first fault.
+#[no_mangle]
+pub extern "C" fn dpe_validate(image: &[u8]) -> u64
+    ensures { λ r. ⌜ r ≡ wordOf (validateAt (now (image .entry))) ⌝ }
+{
+    let read = state::read_state(image);
+    let answer = read.answer;
+    let Outcome::Done = answer else {
+        return error::word(answer);
+    };
+    let t = read.state;
+    error::word(validation::outcome(validation::validate_dpe(t)))
+}
+
+// Finds the active context of a locality that has a handle.
+#[no_mangle]
+pub extern "C" fn dpe_lookup(
+    image: &[u8],
+    handle: &[u8; handle::SIZE],
+    locality: u32,
+    slot: &mut u64,
+) -> u64
+    ensures { λ r. ⌜ r ≡ foundWord (lookupAt (now (image .entry)) (now (handle .entry)) locality) ⌝ }
+    ensures { λ _. ⌜ now (slot .exit) ≡ foundPlace (lookupAt (now (image .entry)) (now (handle .entry)) locality) (now (slot .entry)) ⌝ }
+{
+    let read = state::read_state(image);
+    let answer = read.answer;
+    let Outcome::Done = answer else {
+        return error::word(answer);
+    };
+    let t = read.state;
+    match lookup::get_active_context_pos(t, *handle, locality) {
+        Found::At(i) => {
+            *slot = wide(i);
+            0
+        }
+        Found::Refused(e) => refused(e),
+    }
+}
+
+// Initialises the default context, or a simulation context with a candidate for its handle.
+#[no_mangle]
+pub extern "C" fn dpe_initialize_context(
+    image: &mut [u8],
+    flags: u32,
+    locality: u32,
+    candidates: &[u8],
+    new_handle: &mut [u8; handle::SIZE],
+) -> u64
+    ensures { λ r. ⌜ r ≡ wordOf (initializeAt (now (image .entry)) flags locality (now (candidates .entry)) .answer) ⌝ }
+    ensures { λ _. ⌜ now (image .exit) ≡ imageAfter (initializeAt (now (image .entry)) flags locality (now (candidates .entry))) (now (image .entry)) ⌝ }
+    ensures { λ _. ⌜ now («new_handle» .exit) ≡ handlePlace (initializeAt (now (image .entry)) flags locality (now (candidates .entry))) (now («new_handle» .entry)) ⌝ }
+{
+    let read = state::read_state(image);
+    let answer = read.answer;
+    let Outcome::Done = answer else {
+        return error::word(answer);
+    };
+    let t = read.state;
+    let made = initialize_context::initialize_context(t, flags, locality, candidates);
+    let ended = made.answer;
+    let Outcome::Done = ended else {
+        return error::word(ended);
+    };
+    let u = made.state;
+    let h = made.handle;
+    state::write_state(u, image);
+    *new_handle = h;
+    0
+}
+
+// Gives the context with a handle in a locality a new handle: the default one, or a candidate.
+#[no_mangle]
+pub extern "C" fn dpe_rotate_context(
+    image: &mut [u8],
+    handle: &[u8; handle::SIZE],
+    locality: u32,
+    flags: u32,
+    candidates: &[u8],
+    new_handle: &mut [u8; handle::SIZE],
+) -> u64
+    ensures { λ r. ⌜ r ≡ wordOf (rotateAt (now (image .entry)) (now (handle .entry)) locality flags (now (candidates .entry)) .answer) ⌝ }
+    ensures { λ _. ⌜ now (image .exit) ≡ imageAfter (rotateAt (now (image .entry)) (now (handle .entry)) locality flags (now (candidates .entry))) (now (image .entry)) ⌝ }
+    ensures { λ _. ⌜ now («new_handle» .exit) ≡ handlePlace (rotateAt (now (image .entry)) (now (handle .entry)) locality flags (now (candidates .entry))) (now («new_handle» .entry)) ⌝ }
+{
+    let read = state::read_state(image);
+    let answer = read.answer;
+    let Outcome::Done = answer else {
+        return error::word(answer);
+    };
+    let t = read.state;
+    let made = rotate_context::rotate_context(t, *handle, locality, flags, candidates);
+    let ended = made.answer;
+    let Outcome::Done = ended else {
+        return error::word(ended);
+    };
+    let u = made.state;
+    let h = made.handle;
+    state::write_state(u, image);
+    *new_handle = h;
+    0
+}
+
+// Destroys the context with a handle in a locality, with all below it and the retired run above it.
+#[no_mangle]
+pub extern "C" fn dpe_destroy_context(
+    image: &mut [u8],
+    handle: &[u8; handle::SIZE],
+    locality: u32,
+) -> u64
+    ensures { λ r. ⌜ r ≡ wordOf (destroyAt (now (image .entry)) (now (handle .entry)) locality .answer) ⌝ }
+    ensures { λ _. ⌜ now (image .exit) ≡ destroyedAfter (destroyAt (now (image .entry)) (now (handle .entry)) locality) (now (image .entry)) ⌝ }
+{
+    let read = state::read_state(image);
+    let answer = read.answer;
+    let Outcome::Done = answer else {
+        return error::word(answer);
+    };
+    let t = read.state;
+    let gone = destroy_context::destroy_context(t, *handle, locality);
+    let ended = gone.answer;
+    let Outcome::Done = ended else {
+        return error::word(ended);
+    };
+    let u = gone.state;
+    state::write_state(u, image);
+    0
+}
+
+// All that is below a slot, as marks.
+#[no_mangle]
+pub extern "C" fn dpe_descendants(image: &[u8], slot: usize, marks: &mut u64) -> u64
+    ensures { λ r. ⌜ r ≡ marksWord (descendantsAt (now (image .entry)) slot) ⌝ }
+    ensures { λ _. ⌜ now (marks .exit) ≡ marksPlace (descendantsAt (now (image .entry)) slot) (now (marks .entry)) ⌝ }
+{
+    let read = state::read_state(image);
+    let answer = read.answer;
+    let Outcome::Done = answer else {
+        return error::word(answer);
+    };
+    let t = read.state;
+    match descendants::get_descendants(t, slot) {
+        Answer::Marks(m) => {
+            *marks = m;
+            0
+        }
+        Answer::Refused(e) => refused(e),
+    }
+}
+
+// The slots from a root down to a slot.
+#[no_mangle]
+pub extern "C" fn dpe_path(
+    image: &[u8],
+    slot: usize,
+    slots: &mut [u8; MAX_HANDLES],
+    length: &mut u64,
+) -> u64
+    ensures { λ r. ⌜ r ≡ foundWord (lengthAt (now (image .entry)) slot) ⌝ }
+    ensures { λ _. ⌜ now (slots .exit) ≡ slotsPlace (lengthAt (now (image .entry)) slot) (pathAt (now (image .entry)) slot .slots) (now (slots .entry)) ⌝ }
+    ensures { λ _. ⌜ now (length .exit) ≡ foundPlace (lengthAt (now (image .entry)) slot) (now (length .entry)) ⌝ }
+{
+    let read = state::read_state(image);
+    let answer = read.answer;
+    let Outcome::Done = answer else {
+        return error::word(answer);
+    };
+    let t = read.state;
+    let found = path::root_to_leaf(t, slot);
+    let k = found.length;
+    match k {
+        Found::At(n) => {
+            let all = found.slots;
+            *slots = all;
+            *length = wide(n);
+            0
+        }
+        Found::Refused(e) => refused(e),
+    }
+}
+
+// How many contexts are in a state: 0 inactive, 1 active, 2 retired.
+#[no_mangle]
+pub extern "C" fn dpe_count(image: &[u8], state: u8, count: &mut u64) -> u64
+    ensures { λ r. ⌜ r ≡ foundWord (countAt (now (image .entry)) state) ⌝ }
+    ensures { λ _. ⌜ now (count .exit) ≡ foundPlace (countAt (now (image .entry)) state) (now (count .entry)) ⌝ }
+{
+    let read = state::read_state(image);
+    let answer = read.answer;
+    let Outcome::Done = answer else {
+        return error::word(answer);
+    };
+    if state >= 3 {
+        return refused(DpeErrorCode::InvalidArgument);
+    }
+    let t = read.state;
+    *count = wide(table::state::count_contexts(t, context::state_of(state)));
+    0
+}

@@ -1,0 +1,2 @@
+-- What the contracts of error cite.
+pub mod Numbers

@@ -1,0 +1,6 @@
+-- The links of a table, the walks and the search over them, and what a destroy clears.
+pub mod Links
+pub mod Walk
+pub mod Run
+pub mod Destroy
+pub mod Search

@@ -1,0 +1,84 @@
+-- Laws of one context's bytes. Assumes nothing.
+use mathlib.Core.Path.{_≡_, refl, sym, ap, ap₂, _∙_}
+use mathlib.Core.Bool.{Bool, true, false, cond}
+use mathlib.Core.List.{List}
+use Prim.Native.Nat.{ℕ, zero, suc, _+_, _<_}
+use native.Mathlib.Omega.{arith}
+use borrow.Author.Tests.{ltb-true, lt-ltb}
+use lib.ListN.{getD}
+use Rattle.error.specs.declared.Outcome.{Outcome}
+use Rattle.error.specs.declared.Outcome.the-variants.{Done, Refused}
+use Rattle.error.specs.declared.DpeErrorCode.{DpeErrorCode}
+use Rattle.wire.specs.Le.{part}
+use Rattle.wire.proofs.Part.{getD-part}
+use Rattle.table.specs.declared.context.ContextState.{ContextState}
+use Rattle.table.specs.declared.context.ContextState.the-variants.{Inactive, Active, Retired}
+use Rattle.table.specs.declared.context.ContextType.{ContextType}
+use Rattle.table.specs.declared.context.ContextType.the-variants.{Normal, Simulation}
+use Rattle.image.specs.Context.{contextSize, stateOf, stateByte, typeOf, typeByte, stateByteIn, typeByteIn, stateAnswer, typeAnswer, first, contextAnswer}
+
+-- ---- the bytes of a type and of a state
+
+pub type-rest : (b : ℕ) → (b ≡ 0 → ⊥) → Simulation ≡ typeOf b
+unfolding typeOf
+type-rest zero h = absurd (h refl)
+type-rest (suc b) h = refl
+
+pub state-rest : (b : ℕ) → (b ≡ 0 → ⊥) → (b ≡ 1 → ⊥) → Retired ≡ stateOf b
+unfolding stateOf
+state-rest zero h k = absurd (h refl)
+state-rest (suc zero) h k = absurd (k refl)
+state-rest (suc (suc b)) h k = refl
+
+pub type-byte : (b : ℕ) → b < 2 → typeByte (typeOf b) ≡ b
+unfolding typeOf
+type-byte zero h = refl
+type-byte (suc zero) h = refl
+type-byte (suc (suc b)) h = absurd (omega arith)
+
+pub state-byte : (b : ℕ) → b < 3 → stateByte (stateOf b) ≡ b
+unfolding stateOf
+state-byte zero h = refl
+state-byte (suc zero) h = refl
+state-byte (suc (suc zero)) h = refl
+state-byte (suc (suc (suc b))) h = absurd (omega arith)
+
+pub byte-type : (t : ContextType) → (typeOf (typeByte t) ≡ t) × (typeByte t < 2)
+unfolding typeOf
+byte-type Normal = (refl, omega arith)
+byte-type Simulation = (refl, omega arith)
+
+pub byte-state : (s : ContextState) → (stateOf (stateByte s) ≡ s) × (stateByte s < 3)
+unfolding stateOf
+byte-state Inactive = (refl, omega arith)
+byte-state Active = (refl, omega arith)
+byte-state Retired = (refl, omega arith)
+
+-- ---- what reading a context answers
+
+pub first-done : (a b : Outcome) → first a b ≡ Done → (a ≡ Done) × (b ≡ Done)
+first-done Done b h = (refl, h)
+first-done (Refused e) b h = absurd (let z : _≡_ {A = ℕ} 0 1 = cc in omega arith)
+
+module _ (e : DpeErrorCode) where
+  fine : (t : Bool) → cond t Done (Refused e) ≡ Done → t ≡ true
+  fine true h = refl
+  fine false h = absurd (let z : _≡_ {A = ℕ} 0 1 = cc in omega arith)
+
+module _ (l : List ℕ) where
+  pub done-bytes : contextAnswer l ≡ Done → (stateByteIn l < 3) × (typeByteIn l < 2)
+  unfolding contextAnswer
+  done-bytes h =
+      let w = first-done (stateAnswer (stateByteIn l)) (typeAnswer (typeByteIn l)) h in
+      (ltb-true _ _ (fine _ _ (w .0)), ltb-true _ _ (fine _ _ (w .1)))
+
+  pub bytes-done : stateByteIn l < 3 → typeByteIn l < 2 → contextAnswer l ≡ Done
+  unfolding contextAnswer
+  bytes-done s t = rw (lt-ltb _ _ s, lt-ltb _ _ t)
+
+-- the same, by the bytes of a longer list
+pub answer-is : (l : List ℕ) (at : ℕ) {a b r : Outcome} → a ≡ stateAnswer (getD l (at + 138) 0) → b ≡ typeAnswer (getD l (at + 137) 0) → r ≡ first a b
+    → r ≡ contextAnswer (part at contextSize l)
+unfolding contextAnswer
+answer-is l at p q e =
+    e ∙ ap₂ first (p ∙ ap stateAnswer (sym (getD-part at contextSize 138 l (omega arith)))) (q ∙ ap typeAnswer (sym (getD-part at contextSize 137 l (omega arith))))

@@ -1,0 +1,140 @@
+-- Laws of writing: how long what is written is, and that fields written one after the other are the whole. Assumes nothing.
+use mathlib.Core.Path.{_≡_, refl, sym, ap, _∙_}
+use mathlib.Core.List.{List, [], _∷_, _++_, append-assoc, append-nil}
+use Prim.Native.Nat.{ℕ, zero, suc, _+_, _*_, _≤_, _<_}
+use native.Mathlib.Numerals.{add-one}
+use native.Mathlib.Omega.{arith}
+use borrow.Author.Tests.{eq-eqb, ne-eqb}
+use borrow.Rule.Slice.PartMut.{putMid}
+use lib.ListN.{length, take, set, length-append}
+use lib.Seq.{take-suc, take-length}
+use Rattle.error.specs.declared.Outcome.the-variants.{Done, Refused}
+use Rattle.error.specs.declared.DpeErrorCode.the-variants.{Added}
+use Rattle.error.specs.declared.AddedErrorCode.the-variants.{BadLength}
+use Rattle.children.specs.Marks.{slotCount}
+use Rattle.wire.specs.Le.{leBytes, put}
+use Rattle.wire.proofs.Put.{Wrote, wrote-more, length-put, put-nil, put-mid, put-next, put-sets, put-all}
+use Rattle.wire.proofs.Le.{length-leBytes}
+use Rattle.table.specs.Context.{slotOf, noContext}
+use Rattle.table.specs.declared.tci.TciNodeData.{TciNodeData}
+use Rattle.table.specs.declared.context.Context.{Context}
+use Rattle.table.specs.declared.state.State.{State}
+use Rattle.image.specs.Fits.{FitsTci, FitsContext, Fits}
+use Rattle.image.specs.Context.{contextSize, encodeTci, encodeLast, encodeContext}
+use Rattle.image.specs.State.{contextsAt, supportAt, stateSize, encodeSlots, encodeState, writeAnswer, written}
+
+-- ---- lengths
+
+pub length-tci : (t : TciNodeData) → FitsTci t → length (encodeTci t) ≡ 108
+unfolding encodeTci
+length-tci t f = simp (length-append, length-leBytes) (omega (arith, f .cumulative .size, f .current .size))
+
+pub length-context : (c : Context) → FitsContext c → length (encodeContext c) ≡ contextSize
+unfolding encodeContext encodeLast
+length-context c f = simp (length-append, length-leBytes) (omega (arith, f .handle .size, length-tci (c .tci) (f .tci)))
+
+pub length-slots : (cs : List Context) (i : ℕ) → i ≤ length cs → ((j : ℕ) → j < length cs → FitsContext (slotOf cs j)) → length (encodeSlots (take i cs)) ≡ contextSize * i
+unfolding encodeSlots
+length-slots cs zero h f = refl
+length-slots [] (suc i) h f = absurd (omega arith)
+length-slots (c ∷ cs) (suc i) h f =
+    length-append (encodeContext c) (encodeSlots (take i cs))
+    ∙ omega (arith, length-context c (f 0 (omega arith)), length-slots cs i (omega arith) (λ j u. f (suc j) (omega arith)))
+
+pub length-all : (t : State) → Fits t → length (encodeSlots (t .contexts)) ≡ contextSize * slotCount
+length-all t f =
+    ap (λ (cs : List Context). length (encodeSlots cs)) (sym (take-length (t .contexts)))
+    ∙ length-slots (t .contexts) (length (t .contexts)) (omega arith) (λ j h. f .contexts j (omega (arith, f .slots)))
+    ∙ ap (λ (n : ℕ). contextSize * n) (f .slots)
+
+-- a table that fits is written as an image
+pub length-state : (t : State) → Fits t → length (encodeState t) ≡ stateSize
+unfolding encodeState
+length-state t f = simp (length-append, length-leBytes) (omega (arith, length-all t f))
+
+-- ---- one context
+
+pub tci-put : (t : TciNodeData) (l : List ℕ) {l₁ l₂ l₃ l₄ l₅ : List ℕ} → FitsTci t → length l ≡ contextSize
+    → l₁ ≡ put 16 (leBytes 4 (t .«tci_type»)) l → l₂ ≡ put 20 (t .«tci_cumulative») l₁ → l₃ ≡ put 68 (t .«tci_current») l₂
+    → l₄ ≡ put 116 (leBytes 4 (t .locality)) l₃ → l₅ ≡ put 120 (leBytes 4 (t .svn)) l₄ → l₅ ≡ put 16 (encodeTci t) l
+unfolding encodeTci
+tci-put t l f n p₁ p₂ p₃ p₄ p₅ =
+    let w₁ : Wrote 16 4 (leBytes 4 (t .«tci_type»)) l _ = record { size = length-leBytes 4 _; bytes = p₁ } in
+    let w₂ = wrote-more 16 4 48 (t .«tci_cumulative») (omega arith) w₁ (f .cumulative .size) p₂ in
+    let w₃ = wrote-more 16 52 48 (t .«tci_current») (omega arith) w₂ (f .current .size) p₃ in
+    let w₄ = wrote-more 16 100 4 (leBytes 4 (t .locality)) (omega arith) w₃ (length-leBytes 4 _) p₄ in
+    wrote-more 16 104 4 (leBytes 4 (t .svn)) (omega arith) w₄ (length-leBytes 4 _) p₅ .bytes
+
+pub context-put : (c : Context) (l : List ℕ) {l₁ l₂ l₃ l₄ l₅ : List ℕ} → FitsContext c → length l ≡ contextSize
+    → l₁ ≡ put 0 (c .handle) l → l₂ ≡ put 16 (encodeTci (c .tci)) l₁ → l₃ ≡ put 124 (leBytes 8 (c .children)) l₂
+    → l₄ ≡ put 132 (leBytes 4 (c .locality)) l₃ → l₅ ≡ put 136 (encodeLast c) l₄ → l₅ ≡ encodeContext c
+unfolding encodeContext encodeLast
+context-put c l f n p₁ p₂ p₃ p₄ p₅ =
+    let w₁ : Wrote 0 16 (c .handle) l _ = record { size = f .handle .size; bytes = p₁ } in
+    let w₂ = wrote-more 0 16 108 (encodeTci (c .tci)) (omega arith) w₁ (length-tci (c .tci) (f .tci)) p₂ in
+    let w₃ = wrote-more 0 124 8 (leBytes 8 (c .children)) (omega arith) w₂ (length-leBytes 8 _) p₃ in
+    let w₄ = wrote-more 0 132 4 (leBytes 4 (c .locality)) (omega arith) w₃ (length-leBytes 4 _) p₄ in
+    let w₅ = wrote-more 0 136 8 (encodeLast c) (omega arith) w₄ refl p₅ in
+    w₅ .bytes ∙ put-all _ l (w₅ .size ∙ sym n)
+
+-- ---- the contexts
+
+pub encodeSlots-snoc : (cs : List Context) (c : Context) → encodeSlots (cs ++ (c ∷ [])) ≡ encodeSlots cs ++ encodeContext c
+unfolding encodeSlots
+encodeSlots-snoc [] c = append-nil (encodeContext c)
+encodeSlots-snoc (x ∷ cs) c = ap (λ (r : List ℕ). encodeContext x ++ r) (encodeSlots-snoc cs c) ∙ sym (append-assoc (encodeContext x) (encodeSlots cs) (encodeContext c))
+
+pub slots-none : (cs : List Context) (l : List ℕ) → l ≡ put contextsAt (encodeSlots (take 0 cs)) l
+unfolding encodeSlots
+slots-none cs l = sym (put-nil contextsAt l)
+
+-- one context more, written into its own part
+pub slot-put : (t : State) (l : List ℕ) (i : ℕ) {l′ v : List ℕ} → Fits t → i < slotCount → length l ≡ stateSize
+    → l′ ≡ put contextsAt (encodeSlots (take i (t .contexts))) l → v ≡ encodeContext (slotOf (t .contexts) i)
+    → putMid (contextsAt + contextSize * i) contextSize l′ v ≡ put contextsAt (encodeSlots (take (i + 1) (t .contexts))) l
+slot-put t l i {l′} {v} f h n p q =
+    let cs = t .contexts in
+    let k = f .slots in
+    let m : length v ≡ contextSize = ap length q ∙ length-context (slotOf cs i) (f .contexts i h) in
+    let e : encodeSlots (take (i + 1) cs) ≡ encodeSlots (take i cs) ++ v =
+    ap (λ (j : ℕ). encodeSlots (take j cs)) (add-one i) ∙ ap encodeSlots (take-suc cs i noContext (omega arith)) ∙ encodeSlots-snoc (take i cs) (slotOf cs i)
+    ∙ ap (λ (x : List ℕ). encodeSlots (take i cs) ++ x) (sym q) in
+    put-mid (contextsAt + contextSize * i) contextSize v l′ m
+    ∙ put-next contextsAt (contextSize * i) (encodeSlots (take i cs)) v l (length-slots cs i (omega arith) (λ j u. f .contexts j (omega arith))) (omega arith) p refl
+    ∙ ap (λ (w : List ℕ). put contextsAt w l) (sym e)
+
+pub length-slots-put : (t : State) (l : List ℕ) (i : ℕ) → Fits t → i ≤ slotCount → length l ≡ stateSize → length (put contextsAt (encodeSlots (take i (t .contexts))) l) ≡ stateSize
+length-slots-put t l i f h n =
+    let k = f .slots in
+    length-put contextsAt (encodeSlots (take i (t .contexts))) l (omega (arith, length-slots (t .contexts) i (omega arith) (λ j u. f .contexts j (omega arith)))) ∙ n
+
+pub slots-put : (t : State) (l : List ℕ) (i : ℕ) {l′ : List ℕ} → Fits t → i ≡ slotCount
+    → l′ ≡ put contextsAt (encodeSlots (take i (t .contexts))) l → l′ ≡ put contextsAt (encodeSlots (t .contexts)) l
+slots-put t l i f e p =
+    p ∙ ap (λ (cs : List Context). put contextsAt (encodeSlots cs) l) (ap (λ (n : ℕ). take n (t .contexts)) (e ∙ sym (f .slots)) ∙ take-length (t .contexts))
+
+-- ---- the whole
+
+pub state-put : (t : State) (l : List ℕ) {l₁ l₂ l₃ l₄ l₅ : List ℕ} → Fits t → length l ≡ stateSize → length l₅ ≡ stateSize
+    → l₁ ≡ put 0 (leBytes 4 (t .marker)) l → l₂ ≡ put 4 (leBytes 4 (t .version)) l₁ → l₃ ≡ put contextsAt (encodeSlots (t .contexts)) l₂
+    → l₄ ≡ put supportAt (leBytes 4 (t .support)) l₃ → l₅ ≡ put (supportAt + 4) (leBytes 2 (t .flags)) l₄
+    → set (set l₅ (supportAt + 6) (t .«has_initialized»)) (supportAt + 7) (t .reserved) ≡ encodeState t
+unfolding encodeState
+state-put t l {l₅ = l₅} f n n₅ p₁ p₂ p₃ p₄ p₅ =
+    let last = t .«has_initialized» ∷ t .reserved ∷ [] in
+    let w₁ : Wrote 0 4 (leBytes 4 (t .marker)) l _ = record { size = length-leBytes 4 _; bytes = p₁ } in
+    let w₂ = wrote-more 0 4 4 (leBytes 4 (t .version)) (omega arith) w₁ (length-leBytes 4 _) p₂ in
+    let w₃ = wrote-more 0 contextsAt (contextSize * slotCount) (encodeSlots (t .contexts)) (omega arith) w₂ (length-all t f) p₃ in
+    let w₄ = wrote-more 0 supportAt 4 (leBytes 4 (t .support)) (omega arith) w₃ (length-leBytes 4 _) p₄ in
+    let w₅ = wrote-more 0 (supportAt + 4) 2 (leBytes 2 (t .flags)) (omega arith) w₄ (length-leBytes 2 _) p₅ in
+    let w₆ = wrote-more 0 (supportAt + 6) 2 last (omega arith) w₅ refl (put-sets (supportAt + 6) last l₅ (omega arith)) in
+    w₆ .bytes ∙ put-all _ l (w₆ .size ∙ sym n)
+
+module _ (t : State) (l : List ℕ) where
+  pub write-short : (length l ≡ stateSize → ⊥) → (Refused (Added BadLength) ≡ writeAnswer l) × (l ≡ written t l)
+  unfolding writeAnswer written
+  write-short h = (rw (ne-eqb _ _ h), rw (ne-eqb _ _ h))
+
+  pub write-whole : length l ≡ stateSize → (Done ≡ writeAnswer l) × (encodeState t ≡ written t l)
+  unfolding writeAnswer written
+  write-whole e = (rw (eq-eqb _ _ e), rw (eq-eqb _ _ e))

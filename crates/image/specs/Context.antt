@@ -1,0 +1,113 @@
+-- One context of the state image, from document 01's offsets. Assumes nothing: these are definitions.
+use Prim.Native.Nat.{ℕ, zero, suc}
+use mathlib.Core.Bool.{cond}
+use mathlib.Core.List.{List, [], _∷_, _++_}
+use lib.ListN.{getD, replicate}
+use lib.Dec.{ltb}
+use Rattle.error.specs.declared.Outcome.{Outcome}
+use Rattle.error.specs.declared.Outcome.the-variants.{Done, Refused}
+use Rattle.error.specs.declared.DpeErrorCode.the-variants.{Validation}
+use Rattle.error.specs.declared.ValidationError.the-variants.{BadContextState, BadContextType}
+use Rattle.wire.specs.Le.{part, le, leBytes}
+use Rattle.table.specs.declared.tci.TciNodeData.{TciNodeData}
+use Rattle.table.specs.declared.context.ContextState.{ContextState}
+use Rattle.table.specs.declared.context.ContextState.the-variants.{Inactive, Active, Retired}
+use Rattle.table.specs.declared.context.ContextType.{ContextType}
+use Rattle.table.specs.declared.context.ContextType.the-variants.{Normal, Simulation}
+use Rattle.table.specs.declared.context.Context.{Context}
+
+-- how many bytes a context has
+abbrev pub contextSize : ℕ
+contextSize = 144
+
+-- the state that a byte says, and the byte of a state
+unfoldable pub stateOf : ℕ → ContextState
+stateOf zero = Inactive
+stateOf (suc zero) = Active
+stateOf (suc (suc n)) = Retired
+
+abbrev pub stateByte : ContextState → ℕ
+stateByte Inactive = 0
+stateByte Active = 1
+stateByte Retired = 2
+
+-- the type that a byte says, and the byte of a type
+unfoldable pub typeOf : ℕ → ContextType
+typeOf zero = Normal
+typeOf (suc n) = Simulation
+
+abbrev pub typeByte : ContextType → ℕ
+typeByte Normal = 0
+typeByte Simulation = 1
+
+-- ---- read: each field at its offset
+
+-- the type byte and the state byte
+abbrev pub typeByteIn : List ℕ → ℕ
+typeByteIn l = getD l 137 0
+
+abbrev pub stateByteIn : List ℕ → ℕ
+stateByteIn l = getD l 138 0
+
+-- the measurements of these bytes
+unfoldable pub decodeTci : List ℕ → TciNodeData
+decodeTci l = record {
+  «tci_type» = le (part 16 4 l);
+  «tci_cumulative» = part 20 48 l;
+  «tci_current» = part 68 48 l;
+  locality = le (part 116 4 l);
+  svn = le (part 120 4 l);
+}
+
+-- the context of these bytes, whatever its state and type bytes are
+unfoldable pub decodeContext : List ℕ → Context
+decodeContext l = record {
+  handle = part 0 16 l;
+  tci = decodeTci l;
+  children = le (part 124 8 l);
+  locality = le (part 132 4 l);
+  «parent_idx» = getD l 136 0;
+  «context_type» = typeOf (typeByteIn l);
+  state = stateOf (stateByteIn l);
+  «uses_internal_input_info» = getD l 139 0;
+  «uses_internal_input_dice» = getD l 140 0;
+  «allow_x509» = getD l 141 0;
+  «allow_export_cdi» = getD l 142 0;
+  «allow_recursive» = getD l 143 0;
+}
+
+-- the context of all zero bytes
+unfoldable pub blankContext : Context
+blankContext = decodeContext (replicate contextSize 0)
+
+-- a state byte is 0 to 2, and a type byte 0 or 1
+abbrev pub stateAnswer : ℕ → Outcome
+stateAnswer b = cond (ltb b 3) Done (Refused (Validation BadContextState))
+
+abbrev pub typeAnswer : ℕ → Outcome
+typeAnswer b = cond (ltb b 2) Done (Refused (Validation BadContextType))
+
+-- the first refusal of two answers
+abbrev pub first : Outcome → Outcome → Outcome
+first Done b = b
+first (Refused e) b = Refused e
+
+-- what reading a context answers: the state byte is tested, and then the type byte
+unfoldable pub contextAnswer : List ℕ → Outcome
+contextAnswer l = first (stateAnswer (stateByteIn l)) (typeAnswer (typeByteIn l))
+
+-- ---- written: field after field
+
+-- the bytes of measurements
+unfoldable pub encodeTci : TciNodeData → List ℕ
+encodeTci t = leBytes 4 (t .«tci_type») ++ t .«tci_cumulative» ++ t .«tci_current» ++ leBytes 4 (t .locality) ++ leBytes 4 (t .svn)
+
+-- the last eight fields of a context, a byte each
+unfoldable pub encodeLast : Context → List ℕ
+encodeLast c =
+    c .«parent_idx» ∷ typeByte (c .«context_type») ∷ stateByte (c .state) ∷ c .«uses_internal_input_info» ∷ c .«uses_internal_input_dice»
+    ∷ c .«allow_x509» ∷ c .«allow_export_cdi» ∷ c .«allow_recursive» ∷ []
+
+-- the bytes of a context
+unfoldable pub encodeContext : Context → List ℕ
+encodeContext c = c .handle ++ encodeTci (c .tci) ++ leBytes 8 (c .children) ++ leBytes 4 (c .locality) ++ encodeLast c

@@ -1,0 +1,2 @@
+-- What the contract of initialize_context cites.
+pub mod Initialize

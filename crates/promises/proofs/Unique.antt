@@ -1,0 +1,420 @@
+-- For every public function: no second result fits its contract, and no second content of a lent place. Proved once in general, and applied to each
+-- contract as the checker reads it. docs/THEOREMS.md lists the functions that are proved by hand and have no such reading. Assumes nothing.
+use denote.Ref.{now}
+use mathlib.Core.Path.{_≡_, sym, _∙_}
+use Rattle.error.proofs.internal.Reads as error-internal-reads
+use Rattle.error.proofs.validation.Reads as error-validation-reads
+use Rattle.error.proofs.added.Reads as error-added-reads
+use Rattle.error.proofs.outer.Reads as error-outer-reads
+use Rattle.error.proofs.inner.Reads as error-inner-reads
+use Rattle.error.proofs.word.Reads as error-word-reads
+use Rattle.children.proofs.empty.Reads as children-empty-reads
+use Rattle.children.proofs.with.Reads as children-with-reads
+use Rattle.children.proofs.with_if.Reads as children-with-if-reads
+use Rattle.children.proofs.add_child.Reads as children-add-child-reads
+use Rattle.children.proofs.is_empty.Reads as children-is-empty-reads
+use Rattle.children.proofs.has_children.Reads as children-has-children-reads
+use Rattle.children.proofs.has_child.Reads as children-has-child-reads
+use Rattle.children.proofs.add_children.Reads as children-add-children-reads
+use Rattle.children.proofs.remove_children.Reads as children-remove-children-reads
+use Rattle.children.proofs.count.Reads as children-count-reads
+use Rattle.children.proofs.next.Reads as children-next-reads
+use Rattle.table.proofs.context.Context.new.Reads as table-context-context-new-reads
+use Rattle.table.proofs.context.Context.activate.Reads as table-context-context-activate-reads
+use Rattle.table.proofs.context.Context.destroy.Reads as table-context-context-destroy-reads
+use Rattle.table.proofs.context.Context.add_child.Reads as table-context-context-add-child-reads
+use Rattle.table.proofs.context.is_inactive.Reads as table-context-is-inactive-reads
+use Rattle.table.proofs.context.is_active.Reads as table-context-is-active-reads
+use Rattle.table.proofs.context.is_retired.Reads as table-context-is-retired-reads
+use Rattle.table.proofs.context.same_state.Reads as table-context-same-state-reads
+use Rattle.table.proofs.context.is_normal.Reads as table-context-is-normal-reads
+use Rattle.table.proofs.flags.flag_is_simulation.Reads as table-flags-flag-is-simulation-reads
+use Rattle.table.proofs.flags.flag_is_default.Reads as table-flags-flag-is-default-reads
+use Rattle.table.proofs.flags.uses_target_is_default.Reads as table-flags-uses-target-is-default-reads
+use Rattle.table.proofs.handle.default.Reads as table-handle-default-reads
+use Rattle.table.proofs.handle.new_invalid.Reads as table-handle-new-invalid-reads
+use Rattle.table.proofs.handle.equals.Reads as table-handle-equals-reads
+use Rattle.table.proofs.handle.is_default.Reads as table-handle-is-default-reads
+use Rattle.table.proofs.state.State.new.Reads as table-state-state-new-reads
+use Rattle.table.proofs.state.with_context.Reads as table-state-with-context-reads
+use Rattle.table.proofs.state.with_initialized.Reads as table-state-with-initialized-reads
+use Rattle.table.proofs.state.refused.Reads as table-state-refused-reads
+use Rattle.table.proofs.state.count_contexts.Reads as table-state-count-contexts-reads
+use Rattle.table.proofs.state.get_next_inactive_context_pos.Reads as table-state-get-next-inactive-context-pos-reads
+use Rattle.table.proofs.support.simulation.Reads as table-support-simulation-reads
+use Rattle.table.proofs.support.rotate_context.Reads as table-support-rotate-context-reads
+use Rattle.table.proofs.support.x509.Reads as table-support-x509-reads
+use Rattle.table.proofs.support.internal_info.Reads as table-support-internal-info-reads
+use Rattle.table.proofs.support.internal_dice.Reads as table-support-internal-dice-reads
+use Rattle.table.proofs.tci.TciNodeData.new.Reads as table-tci-tcinodedata-new-reads
+use Rattle.table.proofs.u8bool.get.Reads as table-u8bool-get-reads
+use Rattle.table.proofs.u8bool.new.Reads as table-u8bool-new-reads
+use Rattle.links.proofs.links_of.Reads as links-links-of-reads
+use Rattle.walks.proofs.descendants.descend.Reads as walks-descendants-descend-reads
+use Rattle.walks.proofs.descendants.get_descendants.Reads as walks-descendants-get-descendants-reads
+use Rattle.walks.proofs.why.Reads as walks-why-reads
+use Rattle.walks.proofs.path.parent_of.Reads as walks-path-parent-of-reads
+use Rattle.walks.proofs.path.length.Reads as walks-path-length-reads
+use Rattle.walks.proofs.path.root_to_leaf.Reads as walks-path-root-to-leaf-reads
+use Rattle.walks.proofs.run.index.Reads as walks-run-index-reads
+use Rattle.walks.proofs.run.run_above.Reads as walks-run-run-above-reads
+use Rattle.wire.proofs.read_u16.Reads as wire-read-u16-reads
+use Rattle.wire.proofs.read_u32.Reads as wire-read-u32-reads
+use Rattle.wire.proofs.read_u64.Reads as wire-read-u64-reads
+use Rattle.wire.proofs.write_u16.Reads as wire-write-u16-reads
+use Rattle.wire.proofs.write_u32.Reads as wire-write-u32-reads
+use Rattle.wire.proofs.write_u64.Reads as wire-write-u64-reads
+use Rattle.wire.proofs.read_16.Reads as wire-read-16-reads
+use Rattle.wire.proofs.read_48.Reads as wire-read-48-reads
+use Rattle.wire.proofs.write_run.Reads as wire-write-run-reads
+use Rattle.lookup.proofs.active_in.Reads as lookup-active-in-reads
+use Rattle.lookup.proofs.get_active_context_pos.Reads as lookup-get-active-context-pos-reads
+use Rattle.lookup.proofs.why.Reads as lookup-why-reads
+use Rattle.candidates.proofs.generate_new_handle.Reads as candidates-generate-new-handle-reads
+use Rattle.initialize_context.proofs.initialize_context.Reads as initialize-context-initialize-context-reads
+use Rattle.rotate_context.proofs.rotate_context.Reads as rotate-context-rotate-context-reads
+use Rattle.image.proofs.context.state_of.Reads as image-context-state-of-reads
+use Rattle.image.proofs.context.type_of.Reads as image-context-type-of-reads
+use Rattle.image.proofs.context.read_context.Reads as image-context-read-context-reads
+use Rattle.image.proofs.context.blank.Reads as image-context-blank-reads
+use Rattle.image.proofs.context.answer_at.Reads as image-context-answer-at-reads
+use Rattle.image.proofs.context.write_context.Reads as image-context-write-context-reads
+use Rattle.image.proofs.context.state_byte.Reads as image-context-state-byte-reads
+use Rattle.image.proofs.context.type_byte.Reads as image-context-type-byte-reads
+use Rattle.image.proofs.state.readable.Reads as image-state-readable-reads
+use Rattle.image.proofs.state.read_state.Reads as image-state-read-state-reads
+use Rattle.image.proofs.state.write_state.Reads as image-state-write-state-reads
+use Rattle.validation.proofs.validate_dpe.Reads as validation-validate-dpe-reads
+use Rattle.validation.proofs.outcome.Reads as validation-outcome-reads
+use Rattle.validation.proofs.localities.places_of.Reads as validation-localities-places-of-reads
+use Rattle.validation.proofs.localities.localities_test.Reads as validation-localities-localities-test-reads
+use Rattle.validation.proofs.slots.slots_test.Reads as validation-slots-slots-test-reads
+use Rattle.validation.proofs.trees.trees_test.Reads as validation-trees-trees-test-reads
+use Rattle.destroy_context.proofs.cleared_slot.Reads as destroy-context-cleared-slot-reads
+use Rattle.destroy_context.proofs.cleared.Reads as destroy-context-cleared-reads
+use Rattle.destroy_context.proofs.destroy_slot.Reads as destroy-context-destroy-slot-reads
+use Rattle.destroy_context.proofs.destroy_context.Reads as destroy-context-destroy-context-reads
+use Rattle.view.proofs.fields_at.Reads as view-fields-at-reads
+use Rattle.duottarok.proofs.dpe_validate.Reads as dpe-validate-reads
+use Rattle.duottarok.proofs.dpe_lookup.Reads as dpe-lookup-reads
+use Rattle.duottarok.proofs.dpe_initialize_context.Reads as dpe-initialize-context-reads
+use Rattle.duottarok.proofs.dpe_rotate_context.Reads as dpe-rotate-context-reads
+use Rattle.duottarok.proofs.dpe_destroy_context.Reads as dpe-destroy-context-reads
+use Rattle.duottarok.proofs.dpe_descendants.Reads as dpe-descendants-reads
+use Rattle.duottarok.proofs.dpe_path.Reads as dpe-path-reads
+use Rattle.duottarok.proofs.dpe_count.Reads as dpe-count-reads
+use Rattle.text.proofs.list.Reads as text-list-reads
+
+-- two results that are both what a definition says are one
+one : {A : Type 0} {d r r′ : A} → r ≡ d → r′ ≡ d → r ≡ r′
+one p q = p ∙ sym q
+
+-- the contract P fits one result at most; κ, a and s are the lifetimes, the arguments and the lent places
+abbrev pub OneResult : {L : Type 0} {A R S : L → Type 0} → ((κ : L) → A κ → R κ → S κ → Type 0) → Type 0
+OneResult {L} {A} {R} {S} P = (κ : L) (a : A κ) (r r′ : R κ) (s s′ : S κ) → P κ a r s → P κ a r′ s′ → r ≡ r′
+
+pub error-internal : OneResult error-internal-reads.Post
+error-internal κ a r r′ s s′ = one
+
+pub error-validation : OneResult error-validation-reads.Post
+error-validation κ a r r′ s s′ = one
+
+pub error-added : OneResult error-added-reads.Post
+error-added κ a r r′ s s′ = one
+
+pub error-outer : OneResult error-outer-reads.Post
+error-outer κ a r r′ s s′ = one
+
+pub error-inner : OneResult error-inner-reads.Post
+error-inner κ a r r′ s s′ = one
+
+pub error-word : OneResult error-word-reads.Post
+error-word κ a r r′ s s′ = one
+
+pub children-empty : OneResult children-empty-reads.Post
+children-empty κ a r r′ s s′ = one
+
+pub children-with : OneResult children-with-reads.Post
+children-with κ a r r′ s s′ = one
+
+pub children-with-if : OneResult children-with-if-reads.Post
+children-with-if κ a r r′ s s′ = one
+
+pub children-add-child : OneResult children-add-child-reads.Post
+children-add-child κ a r r′ s s′ = one
+
+pub children-is-empty : OneResult children-is-empty-reads.Post
+children-is-empty κ a r r′ s s′ = one
+
+pub children-has-children : OneResult children-has-children-reads.Post
+children-has-children κ a r r′ s s′ = one
+
+pub children-has-child : OneResult children-has-child-reads.Post
+children-has-child κ a r r′ s s′ = one
+
+pub children-add-children : OneResult children-add-children-reads.Post
+children-add-children κ a r r′ s s′ = one
+
+pub children-remove-children : OneResult children-remove-children-reads.Post
+children-remove-children κ a r r′ s s′ = one
+
+pub children-count : OneResult children-count-reads.Post
+children-count κ a r r′ s s′ = one
+
+pub children-next : OneResult children-next-reads.Post
+children-next κ a r r′ s s′ = one
+
+pub table-context-context-new : OneResult table-context-context-new-reads.Post
+table-context-context-new κ a r r′ s s′ = one
+
+pub table-context-context-activate : OneResult table-context-context-activate-reads.Post
+table-context-context-activate κ a r r′ s s′ = one
+
+pub table-context-context-destroy : OneResult table-context-context-destroy-reads.Post
+table-context-context-destroy κ a r r′ s s′ = one
+
+pub table-context-context-add-child : OneResult table-context-context-add-child-reads.Post
+table-context-context-add-child κ a r r′ s s′ = one
+
+pub table-context-is-inactive : OneResult table-context-is-inactive-reads.Post
+table-context-is-inactive κ a r r′ s s′ = one
+
+pub table-context-is-active : OneResult table-context-is-active-reads.Post
+table-context-is-active κ a r r′ s s′ = one
+
+pub table-context-is-retired : OneResult table-context-is-retired-reads.Post
+table-context-is-retired κ a r r′ s s′ = one
+
+pub table-context-same-state : OneResult table-context-same-state-reads.Post
+table-context-same-state κ a r r′ s s′ = one
+
+pub table-context-is-normal : OneResult table-context-is-normal-reads.Post
+table-context-is-normal κ a r r′ s s′ = one
+
+pub table-flags-flag-is-simulation : OneResult table-flags-flag-is-simulation-reads.Post
+table-flags-flag-is-simulation κ a r r′ s s′ = one
+
+pub table-flags-flag-is-default : OneResult table-flags-flag-is-default-reads.Post
+table-flags-flag-is-default κ a r r′ s s′ = one
+
+pub table-flags-uses-target-is-default : OneResult table-flags-uses-target-is-default-reads.Post
+table-flags-uses-target-is-default κ a r r′ s s′ = one
+
+pub table-handle-default : OneResult table-handle-default-reads.Post
+table-handle-default κ a r r′ s s′ = one
+
+pub table-handle-new-invalid : OneResult table-handle-new-invalid-reads.Post
+table-handle-new-invalid κ a r r′ s s′ = one
+
+pub table-handle-equals : OneResult table-handle-equals-reads.Post
+table-handle-equals κ a r r′ s s′ = one
+
+pub table-handle-is-default : OneResult table-handle-is-default-reads.Post
+table-handle-is-default κ a r r′ s s′ = one
+
+pub table-state-state-new : OneResult table-state-state-new-reads.Post
+table-state-state-new κ a r r′ s s′ = one
+
+pub table-state-with-context : OneResult table-state-with-context-reads.Post
+table-state-with-context κ a r r′ s s′ = one
+
+pub table-state-with-initialized : OneResult table-state-with-initialized-reads.Post
+table-state-with-initialized κ a r r′ s s′ = one
+
+pub table-state-refused : OneResult table-state-refused-reads.Post
+table-state-refused κ a r r′ s s′ = one
+
+pub table-state-count-contexts : OneResult table-state-count-contexts-reads.Post
+table-state-count-contexts κ a r r′ s s′ = one
+
+pub table-state-get-next-inactive-context-pos : OneResult table-state-get-next-inactive-context-pos-reads.Post
+table-state-get-next-inactive-context-pos κ a r r′ s s′ = one
+
+pub table-support-simulation : OneResult table-support-simulation-reads.Post
+table-support-simulation κ a r r′ s s′ = one
+
+pub table-support-rotate-context : OneResult table-support-rotate-context-reads.Post
+table-support-rotate-context κ a r r′ s s′ = one
+
+pub table-support-x509 : OneResult table-support-x509-reads.Post
+table-support-x509 κ a r r′ s s′ = one
+
+pub table-support-internal-info : OneResult table-support-internal-info-reads.Post
+table-support-internal-info κ a r r′ s s′ = one
+
+pub table-support-internal-dice : OneResult table-support-internal-dice-reads.Post
+table-support-internal-dice κ a r r′ s s′ = one
+
+pub table-tci-tcinodedata-new : OneResult table-tci-tcinodedata-new-reads.Post
+table-tci-tcinodedata-new κ a r r′ s s′ = one
+
+pub table-u8bool-get : OneResult table-u8bool-get-reads.Post
+table-u8bool-get κ a r r′ s s′ = one
+
+pub table-u8bool-new : OneResult table-u8bool-new-reads.Post
+table-u8bool-new κ a r r′ s s′ = one
+
+pub links-links-of : OneResult links-links-of-reads.Post
+links-links-of κ a r r′ s s′ = one
+
+pub walks-descendants-descend : OneResult walks-descendants-descend-reads.Post
+walks-descendants-descend κ a r r′ s s′ = one
+
+pub walks-descendants-get-descendants : OneResult walks-descendants-get-descendants-reads.Post
+walks-descendants-get-descendants κ a r r′ s s′ = one
+
+pub walks-why : OneResult walks-why-reads.Post
+walks-why κ a r r′ s s′ = one
+
+pub walks-path-parent-of : OneResult walks-path-parent-of-reads.Post
+walks-path-parent-of κ a r r′ s s′ = one
+
+pub walks-path-length : OneResult walks-path-length-reads.Post
+walks-path-length κ a r r′ s s′ = one
+
+pub walks-path-root-to-leaf : OneResult walks-path-root-to-leaf-reads.Post
+walks-path-root-to-leaf κ a r r′ s s′ = one
+
+pub walks-run-index : OneResult walks-run-index-reads.Post
+walks-run-index κ a r r′ s s′ = one
+
+pub walks-run-run-above : OneResult walks-run-run-above-reads.Post
+walks-run-run-above κ a r r′ s s′ = one
+
+pub wire-read-u16 : OneResult wire-read-u16-reads.Post
+wire-read-u16 κ a r r′ s s′ = one
+
+pub wire-read-u32 : OneResult wire-read-u32-reads.Post
+wire-read-u32 κ a r r′ s s′ = one
+
+pub wire-read-u64 : OneResult wire-read-u64-reads.Post
+wire-read-u64 κ a r r′ s s′ = one
+
+pub wire-write-u16 : (κ : _) (a : _) (r r′ : _) (s s′ : _) → wire-write-u16-reads.Post κ a r s → wire-write-u16-reads.Post κ a r′ s′ → (now (s .0) ≡ now (s′ .0))
+wire-write-u16 κ a r r′ s s′ p q = one p q
+
+pub wire-write-u32 : (κ : _) (a : _) (r r′ : _) (s s′ : _) → wire-write-u32-reads.Post κ a r s → wire-write-u32-reads.Post κ a r′ s′ → (now (s .0) ≡ now (s′ .0))
+wire-write-u32 κ a r r′ s s′ p q = one p q
+
+pub wire-write-u64 : (κ : _) (a : _) (r r′ : _) (s s′ : _) → wire-write-u64-reads.Post κ a r s → wire-write-u64-reads.Post κ a r′ s′ → (now (s .0) ≡ now (s′ .0))
+wire-write-u64 κ a r r′ s s′ p q = one p q
+
+pub wire-read-16 : OneResult wire-read-16-reads.Post
+wire-read-16 κ a r r′ s s′ = one
+
+pub wire-read-48 : OneResult wire-read-48-reads.Post
+wire-read-48 κ a r r′ s s′ = one
+
+pub wire-write-run : (κ : _) (a : _) (r r′ : _) (s s′ : _) → wire-write-run-reads.Post κ a r s → wire-write-run-reads.Post κ a r′ s′ → (now (s .0) ≡ now (s′ .0))
+wire-write-run κ a r r′ s s′ p q = one p q
+
+pub lookup-active-in : OneResult lookup-active-in-reads.Post
+lookup-active-in κ a r r′ s s′ = one
+
+pub lookup-get-active-context-pos : OneResult lookup-get-active-context-pos-reads.Post
+lookup-get-active-context-pos κ a r r′ s s′ = one
+
+pub lookup-why : OneResult lookup-why-reads.Post
+lookup-why κ a r r′ s s′ = one
+
+pub candidates-generate-new-handle : OneResult candidates-generate-new-handle-reads.Post
+candidates-generate-new-handle κ a r r′ s s′ = one
+
+pub initialize-context-initialize-context : OneResult initialize-context-initialize-context-reads.Post
+initialize-context-initialize-context κ a r r′ s s′ = one
+
+pub rotate-context-rotate-context : OneResult rotate-context-rotate-context-reads.Post
+rotate-context-rotate-context κ a r r′ s s′ = one
+
+pub image-context-state-of : OneResult image-context-state-of-reads.Post
+image-context-state-of κ a r r′ s s′ = one
+
+pub image-context-type-of : OneResult image-context-type-of-reads.Post
+image-context-type-of κ a r r′ s s′ = one
+
+pub image-context-read-context : OneResult image-context-read-context-reads.Post
+image-context-read-context κ a r r′ s s′ = one
+
+pub image-context-blank : OneResult image-context-blank-reads.Post
+image-context-blank κ a r r′ s s′ = one
+
+pub image-context-answer-at : OneResult image-context-answer-at-reads.Post
+image-context-answer-at κ a r r′ s s′ = one
+
+pub image-context-write-context : (κ : _) (a : _) (r r′ : _) (s s′ : _) → image-context-write-context-reads.Post κ a r s → image-context-write-context-reads.Post κ a r′ s′ → (now (s .0) ≡ now (s′ .0))
+image-context-write-context κ a r r′ s s′ p q = one p q
+
+pub image-state-readable : OneResult image-state-readable-reads.Post
+image-state-readable κ a r r′ s s′ = one
+
+pub image-state-read-state : OneResult image-state-read-state-reads.Post
+image-state-read-state κ a r r′ s s′ = one
+
+pub image-state-write-state : (κ : _) (a : _) (r r′ : _) (s s′ : _) → image-state-write-state-reads.Post κ a r s → image-state-write-state-reads.Post κ a r′ s′ → (r ≡ r′) × (now (s .1 .0) ≡ now (s′ .1 .0))
+image-state-write-state κ a r r′ s s′ p q = (one (p .0) (q .0), one (p .1) (q .1))
+
+pub validation-validate-dpe : OneResult validation-validate-dpe-reads.Post
+validation-validate-dpe κ a r r′ s s′ = one
+
+pub validation-outcome : OneResult validation-outcome-reads.Post
+validation-outcome κ a r r′ s s′ = one
+
+pub validation-localities-places-of : OneResult validation-localities-places-of-reads.Post
+validation-localities-places-of κ a r r′ s s′ = one
+
+pub validation-localities-localities-test : OneResult validation-localities-localities-test-reads.Post
+validation-localities-localities-test κ a r r′ s s′ = one
+
+pub validation-slots-slots-test : OneResult validation-slots-slots-test-reads.Post
+validation-slots-slots-test κ a r r′ s s′ = one
+
+pub validation-trees-trees-test : OneResult validation-trees-trees-test-reads.Post
+validation-trees-trees-test κ a r r′ s s′ = one
+
+pub destroy-context-cleared-slot : OneResult destroy-context-cleared-slot-reads.Post
+destroy-context-cleared-slot κ a r r′ s s′ = one
+
+pub destroy-context-cleared : OneResult destroy-context-cleared-reads.Post
+destroy-context-cleared κ a r r′ s s′ = one
+
+pub destroy-context-destroy-slot : OneResult destroy-context-destroy-slot-reads.Post
+destroy-context-destroy-slot κ a r r′ s s′ = one
+
+pub destroy-context-destroy-context : OneResult destroy-context-destroy-context-reads.Post
+destroy-context-destroy-context κ a r r′ s s′ = one
+
+pub view-fields-at : OneResult view-fields-at-reads.Post
+view-fields-at κ a r r′ s s′ = one
+
+pub dpe-validate : OneResult dpe-validate-reads.Post
+dpe-validate κ a r r′ s s′ = one
+
+pub dpe-lookup : (κ : _) (a : _) (r r′ : _) (s s′ : _) → dpe-lookup-reads.Post κ a r s → dpe-lookup-reads.Post κ a r′ s′ → (r ≡ r′) × (now (s .1 .1 .1 .0) ≡ now (s′ .1 .1 .1 .0))
+dpe-lookup κ a r r′ s s′ p q = (one (p .0) (q .0), one (p .1) (q .1))
+
+pub dpe-initialize-context : (κ : _) (a : _) (r r′ : _) (s s′ : _) → dpe-initialize-context-reads.Post κ a r s → dpe-initialize-context-reads.Post κ a r′ s′ → (r ≡ r′) × (now (s .0) ≡ now (s′ .0)) × (now (s .1 .1 .1 .1 .0) ≡ now (s′ .1 .1 .1 .1 .0))
+dpe-initialize-context κ a r r′ s s′ p q = (one (p .0) (q .0), one (p .1 .0) (q .1 .0), one (p .1 .1) (q .1 .1))
+
+pub dpe-rotate-context : (κ : _) (a : _) (r r′ : _) (s s′ : _) → dpe-rotate-context-reads.Post κ a r s → dpe-rotate-context-reads.Post κ a r′ s′ → (r ≡ r′) × (now (s .0) ≡ now (s′ .0)) × (now (s .1 .1 .1 .1 .1 .0) ≡ now (s′ .1 .1 .1 .1 .1 .0))
+dpe-rotate-context κ a r r′ s s′ p q = (one (p .0) (q .0), one (p .1 .0) (q .1 .0), one (p .1 .1) (q .1 .1))
+
+pub dpe-destroy-context : (κ : _) (a : _) (r r′ : _) (s s′ : _) → dpe-destroy-context-reads.Post κ a r s → dpe-destroy-context-reads.Post κ a r′ s′ → (r ≡ r′) × (now (s .0) ≡ now (s′ .0))
+dpe-destroy-context κ a r r′ s s′ p q = (one (p .0) (q .0), one (p .1) (q .1))
+
+pub dpe-descendants : (κ : _) (a : _) (r r′ : _) (s s′ : _) → dpe-descendants-reads.Post κ a r s → dpe-descendants-reads.Post κ a r′ s′ → (r ≡ r′) × (now (s .1 .1 .0) ≡ now (s′ .1 .1 .0))
+dpe-descendants κ a r r′ s s′ p q = (one (p .0) (q .0), one (p .1) (q .1))
+
+pub dpe-path : (κ : _) (a : _) (r r′ : _) (s s′ : _) → dpe-path-reads.Post κ a r s → dpe-path-reads.Post κ a r′ s′ → (r ≡ r′) × (now (s .1 .1 .0) ≡ now (s′ .1 .1 .0)) × (now (s .1 .1 .1 .0) ≡ now (s′ .1 .1 .1 .0))
+dpe-path κ a r r′ s s′ p q = (one (p .0) (q .0), one (p .1 .0) (q .1 .0), one (p .1 .1) (q .1 .1))
+
+pub dpe-count : (κ : _) (a : _) (r r′ : _) (s s′ : _) → dpe-count-reads.Post κ a r s → dpe-count-reads.Post κ a r′ s′ → (r ≡ r′) × (now (s .1 .1 .0) ≡ now (s′ .1 .1 .0))
+dpe-count κ a r r′ s s′ p q = (one (p .0) (q .0), one (p .1) (q .1))
+
+pub image-context-state-byte : OneResult image-context-state-byte-reads.Post
+image-context-state-byte κ a r r′ s s′ = one
+
+pub image-context-type-byte : OneResult image-context-type-byte-reads.Post
+image-context-type-byte κ a r r′ s s′ = one
+
+pub text-list : (κ : _) (a : _) (r r′ : _) (s s′ : _) → text-list-reads.Post κ a r s → text-list-reads.Post κ a r′ s′ → (r ≡ r′) × (now (s .1 .0) ≡ now (s′ .1 .0))
+text-list κ a r r′ s s′ p q = (one (p .0) (q .0), one (p .1 .0) (q .1 .0))

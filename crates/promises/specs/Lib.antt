@@ -1,0 +1,3 @@
+-- What is promised of every table that the validator says yes to.
+pub mod Keeps
+pub mod Examples

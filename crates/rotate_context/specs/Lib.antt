@@ -1,0 +1,2 @@
+-- What the contract of rotate_context cites.
+pub mod Rotate

@@ -1,0 +1,155 @@
+-- Laws of the listing's text: one text put behind another, line by line. Assumes nothing.
+use Prim.Native.Nat.{ℕ, _+_, _/_, _%_, _^_, _≤_, _<_}
+use mathlib.Core.Path.{_≡_, refl, sym, ap, _∙_}
+use mathlib.Core.Bool.{true, false}
+use mathlib.Core.List.{List, [], _∷_, _++_, append-nil}
+use native.Mathlib.Numerals.{add-one}
+use native.Mathlib.Omega.{arith}
+use lib.ListN.{length, length-append, set}
+use lib.Seq.{length-take-le}
+use Rattle.io.specs.Counts.{Counts}
+use Rattle.error.specs.declared.Outcome.{Outcome}
+use Rattle.error.specs.declared.Outcome.the-variants.{Done}
+use Rattle.error.specs.Numbers.{wordOf}
+use Rattle.children.specs.Marks.{slotCount, countBelow}
+use Rattle.wire.specs.Le.{put}
+use Rattle.wire.proofs.Put.{length-put, put-nil, put-next, put-sets}
+use Rattle.table.specs.declared.context.Context.{Context}
+use Rattle.table.specs.declared.state.State.{State}
+use Rattle.table.specs.Context.{slotOf, isInactive}
+use Rattle.image.specs.declared.state.StateRead.{StateRead}
+use Rattle.image.specs.Context.{stateByte, typeByte, first}
+use Rattle.image.specs.Fits.{Fits}
+use Rattle.image.specs.State.{stateSize, decodeState, readableOf, encodeState}
+use Rattle.image.proofs.Fields.{first-done}
+use Rattle.image.proofs.Reading.{readable-size, read-answer}
+use Rattle.image.proofs.RoundTrip.{state-again, write-read}
+use Rattle.verdict.specs.Tests.{verdictOf, outcomeOf}
+use Rattle.view.specs.declared.SlotFields.{SlotFields}
+use Rattle.view.specs.View.{fieldsOf}
+use Rattle.duottarok.specs.Exports.{validateAt}
+use Rattle.text.specs.Text.{digitsMost, decimalOf, space, newline, numberThen, verdictWord, verdictLine, outerNumber, innerNumber, rowOf, lineOf, rowsTo, linesFor, textOf, listingOf, numberMost, PutAt}
+use Rattle.text.proofs.Words.{outer-half, inner-half, yes-word, refused-word}
+
+-- ---- one text behind another
+
+pub put-more : {at r r′ : ℕ} {v w l l′ l″ : List ℕ} → PutAt at v l l′ r → PutAt r w l′ l″ r′ → r′ ≤ length l → PutAt at (v ++ w) l l″ r′
+put-more {at} {r} {r′} {v} {w} {l} {l′} {l″} a b h =
+    let q : l″ ≡ put (at + length v) w l′ = b .bytes ∙ ap (λ (k : ℕ). put k w l′) (a .place) in
+    record {
+      bytes = put-next at (length v) v w l refl (omega (arith, a .place, b .place)) (a .bytes) q;
+      place = omega (arith, a .place, b .place, length-append v w);
+    }
+
+put-start : {at r n : ℕ} {v l l′ : List ℕ} → PutAt at v l l′ r → r ≤ n → at ≤ n
+put-start a h = omega (arith, a .place)
+
+pub put-none : (at : ℕ) (l : List ℕ) → PutAt at [] l l at
+put-none at l = record { bytes = sym (put-nil at l); place = omega arith }
+
+put-size : {at r : ℕ} {v l l′ : List ℕ} → PutAt at v l l′ r → r ≤ length l → length l′ ≡ length l
+put-size {at} {r} {v} {l} {l′} a h = ap length (a .bytes) ∙ length-put at v l (omega (arith, a .place))
+
+put-byte : (at m : ℕ) (l : List ℕ) → at < length l → PutAt at (m ∷ []) l (set l at m) (at + 1)
+put-byte at m l h = record { bytes = put-sets at (m ∷ []) l (omega arith); place = refl }
+
+-- a text at the start of the buffer: its length, the buffer afterwards, and that the text is a part of it
+pub put-whole : {r : ℕ} {v l l′ : List ℕ} → PutAt 0 v l l′ r → r ≤ length l → (r ≡ length v) × ((l′ ≡ put 0 v l) × Counts r l′)
+put-whole {r} {v} {l} {l′} a h =
+    let e : length l′ ≡ length l = put-size a h in
+    (omega (arith, a .place), (a .bytes, (omega arith, sym (length-take-le r l′ (omega arith)))))
+
+-- ---- lines
+
+-- digits, and the byte behind them
+pub number-put : (at n mark k : ℕ) (l l′ v : List ℕ) → at + numberMost ≤ length l → k ≤ digitsMost → v ≡ decimalOf n → k ≡ length v → l′ ≡ put at v l
+    → PutAt at (numberThen n mark) l (set l′ (at + k) mark) (at + k + 1)
+unfolding numberThen
+number-put at n mark k l l′ v h u e m p =
+    let a : PutAt at v l l′ (at + k) = record { bytes = p; place = ap (λ (j : ℕ). at + j) m } in
+    let g : at + k < length l′ = omega (arith, put-size a (omega arith)) in
+    let z : PutAt at (v ++ (mark ∷ [])) l (set l′ (at + k) mark) (at + k + 1) = put-more a (put-byte (at + k) mark l′ g) (omega arith) in
+    rw e at z
+
+-- the first line, number by number
+pub verdict-put : (outer inner : ℕ) {a r : ℕ} {l l₁ l₂ l₃ : List ℕ} → r ≤ length l → l₁ ≡ put 0 verdictWord l
+    → PutAt 8 (numberThen outer space) l₁ l₂ a → PutAt a (numberThen inner newline) l₂ l₃ r → PutAt 0 (verdictLine outer inner) l l₃ r
+unfolding verdictLine
+verdict-put outer inner h p a b = put-more (put-more (record { bytes = p; place = refl }) a (put-start b h)) b h
+
+module _ (i : ℕ) (f : SlotFields) where
+  -- a slot's line, number by number
+  pub row-put : {at a b c d e r : ℕ} {l l₁ l₂ l₃ l₄ l₅ l₆ : List ℕ} → r ≤ length l
+      → PutAt at (numberThen i space) l l₁ a → PutAt a (numberThen (stateByte (f .state)) space) l₁ l₂ b
+      → PutAt b (numberThen (typeByte (f .«context_type»)) space) l₂ l₃ c → PutAt c (numberThen (f .locality) space) l₃ l₄ d
+      → PutAt d (numberThen (f .«parent_idx») space) l₄ l₅ e → PutAt e (numberThen (countBelow slotCount (f .children)) newline) l₅ l₆ r
+      → PutAt at (rowOf i f) l l₆ r
+  unfolding rowOf
+  row-put h w₁ w₂ w₃ w₄ w₅ w₆ =
+      let h₅ = put-start w₆ h in
+      let h₄ = put-start w₅ h₅ in
+      let h₃ = put-start w₄ h₄ in
+      let h₂ = put-start w₃ h₃ in
+      put-more (put-more (put-more (put-more (put-more w₁ w₂ h₂) w₃ h₃) w₄ h₄) w₅ h₅) w₆ h
+
+  pub line-none : isInactive (f .state) ≡ true → [] ≡ lineOf i f
+  unfolding lineOf
+  line-none e = sym (rw e)
+
+  pub line-row : isInactive (f .state) ≡ false → rowOf i f ≡ lineOf i f
+  unfolding lineOf
+  line-row e = sym (rw e)
+
+-- the rows grow by a slot's line
+pub rows-none : (s : ℕ → Context) → [] ≡ rowsTo s 0
+unfolding rowsTo
+rows-none s = refl
+
+pub rows-more : (s : ℕ → Context) (i : ℕ) → rowsTo s i ++ lineOf i (fieldsOf (s i)) ≡ rowsTo s (i + 1)
+unfolding rowsTo
+rows-more s i = sym (rw add-one)
+
+-- ---- the listing: o is the verdict, w its word, and a and b the halves of the word
+
+module _ (o : Outcome) (w a b : ℕ) (e : w ≡ wordOf o) (p : a ≡ w / 2 ^ 32) (q : b ≡ w % 2 ^ 32) where
+  head-line : verdictLine a b ≡ verdictLine (outerNumber o) (innerNumber o)
+  head-line = rw (p ∙ ap (λ (x : ℕ). x / 2 ^ 32) e ∙ outer-half o, q ∙ ap (λ (x : ℕ). x % 2 ^ 32) e ∙ inner-half o)
+
+  -- the first line is the whole listing of a refusal
+  text-refused : (s : ℕ → Context) → (w ≡ 0 → ⊥) → verdictLine a b ≡ textOf o s
+  unfolding textOf linesFor
+  text-refused s n =
+      let r = refused-word o (λ z. n (e ∙ z)) in
+      head-line ∙ sym (append-nil _) ∙ ap (λ (x : List ℕ). verdictLine (outerNumber o) (innerNumber o) ++ x) (sym (ap (λ (x : Outcome). linesFor x s) (r .1)))
+
+  -- and the rows follow it for a yes
+  text-yes : (s : ℕ → Context) → w ≡ 0 → verdictLine a b ++ rowsTo s slotCount ≡ textOf o s
+  unfolding textOf linesFor
+  text-yes s z =
+      let r = yes-word o (sym e ∙ z) in
+      ap (λ (x : List ℕ). x ++ rowsTo s slotCount) head-line
+      ∙ ap (λ (x : List ℕ). verdictLine (outerNumber o) (innerNumber o) ++ x) (sym (ap (λ (x : Outcome). linesFor x s) r))
+
+-- the same of the listing of an image l
+module _ (l : List ℕ) (w a b : ℕ) (e : w ≡ wordOf (validateAt l)) (p : a ≡ w / 2 ^ 32) (q : b ≡ w % 2 ^ 32) where
+  pub listing-refused : (w ≡ 0 → ⊥) → verdictLine a b ≡ listingOf l
+  unfolding listingOf
+  listing-refused n = text-refused (validateAt l) w a b e p q (slotOf (decodeState l .contexts)) n
+
+  pub listing-yes : w ≡ 0 → verdictLine a b ++ rowsTo (slotOf (decodeState l .contexts)) slotCount ≡ listingOf l
+  unfolding listingOf
+  listing-yes z = text-yes (validateAt l) w a b e p q (slotOf (decodeState l .contexts)) z
+
+-- what has a yes is as long as an image
+pub yes-size : (l : List ℕ) (w : ℕ) → w ≡ wordOf (validateAt l) → w ≡ 0 → length l ≡ stateSize
+yes-size l w e z = readable-size l (first-done (readableOf l) (outcomeOf (verdictOf (decodeState l))) (yes-word (validateAt l) (sym e ∙ z)) .0)
+
+-- the listing of a table's image is that of the table
+pub listing-written : (t : State) → Fits t → listingOf (encodeState t) ≡ textOf (outcomeOf (verdictOf t)) (slotOf (t .contexts))
+unfolding listingOf
+listing-written t f =
+    let l : List ℕ = encodeState t in
+    let r : readableOf l ≡ Done = sym (read-answer l) ∙ ap (λ (x : StateRead). x .answer) (write-read t f) in
+    let v : validateAt l ≡ outcomeOf (verdictOf t)
+    = ap (λ (x : Outcome). first x (outcomeOf (verdictOf (decodeState l)))) r ∙ ap (λ (x : State). outcomeOf (verdictOf x)) (state-again t f) in
+    ap (λ (x : Outcome). textOf x (slotOf (decodeState l .contexts))) v ∙ ap (λ (x : State). textOf (outcomeOf (verdictOf t)) (slotOf (x .contexts))) (state-again t f)

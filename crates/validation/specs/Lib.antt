@@ -1,0 +1,2 @@
+-- What the contracts of validation cite, beside the verdict itself.
+pub mod Summary

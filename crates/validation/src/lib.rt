@@ -1,0 +1,49 @@
+// The validator of the context table. validation.rs.
+pub mod localities;
+pub mod slots;
+pub mod trees;
+
+use error::DpeErrorCode;
+use error::Outcome;
+use error::ValidationError;
+use table::state;
+use table::state::State;
+use verdict::Verdict;
+ghost use mathlib.Core.Path.{_≡_};
+ghost use Rattle.verdict.specs.Tests.{verdictOf, outcomeOf};
+
+// The verdict on a table: yes, or the first test that fails.
+pub fn validate_dpe(t: State) -> Verdict
+    ensures { λ r. ⌜ r ≡ verdictOf t ⌝ }
+{
+    if t.marker != state::MAGIC {
+        return Verdict::Fault(ValidationError::InvalidMarker);
+    }
+    if t.version != state::VERSION {
+        return Verdict::Fault(ValidationError::VersionMismatch);
+    }
+    let l = links::links_of(t);
+    let children = l.children;
+    let parents = l.parents;
+    let v = slots::slots_test(t, &children, &parents, l.live);
+    let Verdict::Valid = v else {
+        return v;
+    };
+    let p = localities::places_of(t);
+    let places = p.localities;
+    let w = localities::localities_test(&places, p.defaults, p.others);
+    let Verdict::Valid = w else {
+        return w;
+    };
+    trees::trees_test(&children, &parents, l.live, l.simulations)
+}
+
+// How a call ends that answers the verdict.
+pub fn outcome(v: Verdict) -> Outcome
+    ensures { λ r. ⌜ r ≡ outcomeOf v ⌝ }
+{
+    match v {
+        Verdict::Valid => Outcome::Done,
+        Verdict::Fault(e) => Outcome::Refused(DpeErrorCode::Validation(e)),
+    }
+}

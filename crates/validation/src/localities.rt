@@ -1,0 +1,98 @@
+// The tests of the localities.
+use children::MAX_HANDLES;
+use error::ValidationError;
+use table::context;
+use table::handle;
+use table::state::State;
+use verdict::Verdict;
+ghost use mathlib.Core.Path.{_≡_};
+ghost use Prim.Native.Nat.{_<_};
+ghost use Rattle.children.specs.Marks.{slotCount, markCount, marked};
+ghost use Rattle.table.specs.Context.{slotOf};
+ghost use Rattle.links.specs.Summary.{numberIn};
+ghost use Rattle.verdict.specs.Tests.{within, mixTest, localityOf, localitiesTest};
+ghost use Rattle.validation.specs.Summary.{placesOf, tally};
+
+// Who is where.
+pub struct Places {
+    pub localities: [u32; MAX_HANDLES],
+    // The active contexts that are defaults, and that are not, as marks.
+    pub defaults: u64,
+    pub others: u64,
+}
+
+// The places of a table, in one pass.
+pub fn places_of(t: State) -> Places
+    ensures { λ r. ⌜ r ≡ placesOf (slotOf (t .contexts)) ⌝ }
+{
+    let mut localities = [0u32; MAX_HANDLES];
+    let mut defaults = children::empty();
+    let mut others = children::empty();
+    for i in 0..MAX_HANDLES {
+        let c = t.contexts[i];
+        localities[i] = c.locality;
+        let s = c.state;
+        let a = context::is_active(s);
+        let h = c.handle;
+        let d = handle::is_default(h);
+        defaults = children::with_if(a & d, defaults, i);
+        others = children::with_if(a & !d, others, i);
+    }
+    Places {
+        localities,
+        defaults,
+        others,
+    }
+}
+
+// One more where b holds.
+fn one_more(b: bool, x: usize) -> usize
+    requires { ⌜ x < markCount ⌝ }
+    ensures { λ r. ⌜ r ≡ tally b x ⌝ }
+{
+    if b { x + 1 } else { x }
+}
+
+// The active defaults and others of a locality, so far.
+fn mix_test(d: usize, o: usize) -> Verdict
+    ensures { λ r. ⌜ r ≡ mixTest d o ⌝ }
+{
+    if d > 1 {
+        return Verdict::Fault(ValidationError::MultipleDefaultContexts);
+    }
+    if (d != 0) & (o != 0) {
+        return Verdict::Fault(ValidationError::MixedContextLocality);
+    }
+    Verdict::Valid
+}
+
+// The locality l, slots upward.
+fn locality_test(localities: &[u32; MAX_HANDLES], defaults: u64, others: u64, l: u32) -> Verdict
+    ensures { λ r. ⌜ r ≡ localityOf slotCount (within (numberIn (now (localities .entry))) (marked defaults) l) (within (numberIn (now (localities .entry))) (marked others) l) ⌝ }
+{
+    let mut d: usize = 0;
+    let mut o: usize = 0;
+    for k in 0..MAX_HANDLES {
+        let here = localities[k] == l;
+        d = one_more(here & children::has_child(defaults, k), d);
+        o = one_more(here & children::has_child(others, k), o);
+        let v = mix_test(d, o);
+        let Verdict::Valid = v else {
+            return v;
+        };
+    }
+    Verdict::Valid
+}
+
+// The localities of the slots, upward.
+pub fn localities_test(localities: &[u32; MAX_HANDLES], defaults: u64, others: u64) -> Verdict
+    ensures { λ r. ⌜ r ≡ localitiesTest slotCount (numberIn (now (localities .entry))) (marked defaults) (marked others) ⌝ }
+{
+    for j in 0..MAX_HANDLES {
+        let v = locality_test(localities, defaults, others, localities[j]);
+        let Verdict::Valid = v else {
+            return v;
+        };
+    }
+    Verdict::Valid
+}

@@ -1,0 +1,3 @@
+-- What the contracts of walks cite.
+pub mod Walks
+pub mod Path

@@ -1,0 +1,51 @@
+// The run above a slot: the retired slots with one child each, upward without a break. destroy_context.rs.
+use children::Answer;
+use children::MAX_HANDLES;
+use error::AddedErrorCode;
+use error::DpeErrorCode;
+use error::InternalErrorCode;
+use table::context::ROOT_INDEX;
+ghost use mathlib.Core.Path.{_≡_};
+ghost use Prim.Native.Nat.{_<_};
+ghost use Rattle.children.specs.Marks.{slotCount, marked};
+ghost use Rattle.links.specs.Summary.{numberIn};
+ghost use Rattle.walks.specs.Walks.{runFrom};
+
+pub fn index(x: u8) -> usize
+    ensures { λ r. ⌜ r ≡ x ⌝ }
+{
+    x as usize
+}
+
+// The run from the slot p upward, as marks.
+pub fn run_above(
+    children: &[u64; MAX_HANDLES],
+    parents: &[u8; MAX_HANDLES],
+    retired: u64,
+    start: u8,
+) -> Answer
+    ensures { λ r. ⌜ r ≡ runFrom slotCount (marked retired) (numberIn (now (parents .entry))) (numberIn (now (children .entry))) start ⌝ }
+{
+    let mut taken = children::empty();
+    let mut p = start;
+    for d in 0..MAX_HANDLES {
+        let i = index(p);
+        if i >= MAX_HANDLES {
+            if p == ROOT_INDEX {
+                return Answer::Marks(taken);
+            }
+            return Answer::Refused(DpeErrorCode::InternalError(
+                InternalErrorCode::DestroyParentIndexOob,
+            ));
+        }
+        if !children::has_child(retired, i) {
+            return Answer::Marks(taken);
+        }
+        if children::count(children[i]) != 1 {
+            return Answer::Marks(taken);
+        }
+        taken = children::with(taken, i);
+        p = parents[i];
+    }
+    Answer::Refused(DpeErrorCode::Added(AddedErrorCode::WalkLoops))
+}
