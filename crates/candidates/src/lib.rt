@@ -25,7 +25,7 @@ pub struct Chosen {
 }
 
 // Candidate k of the buffer.
-fn candidate_at(candidates: &[u8], k: usize) -> [u8; handle::SIZE]
+pub fn candidate_at(candidates: &[u8], k: usize) -> [u8; handle::SIZE]
     requires { ⌜ (k + 1) * handleSize ≤ length (now candidates) ⌝ }
     ensures { λ r. ⌜ r ≡ candidateAt (now (candidates .entry)) k ⌝ }
 {
@@ -46,7 +46,7 @@ fn has_handle(c: Context, h: [u8; handle::SIZE]) -> bool
 }
 
 // A refusal: no handle.
-fn untaken(e: DpeErrorCode) -> Chosen
+pub fn untaken(e: DpeErrorCode) -> Chosen
     ensures { λ r. ⌜ r ≡ untakenOf e ⌝ }
 {
     let handle = handle::default();

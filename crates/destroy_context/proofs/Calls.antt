@@ -1,5 +1,6 @@
 -- How a destroy goes, way by way. Assumes nothing.
-use mathlib.Core.Path.{_≡_, refl, sym, ap, _∙_}
+use mathlib.Core.Bool.{Bool}
+use mathlib.Core.Path.{_≡_, refl, sym, ap, ap₂, _∙_}
 use mathlib.Core.List.{List}
 use mathlib.Core.Logic.{_⊎_, inl, inr}
 use Prim.Native.Nat.{ℕ, _≤_, _<_}
@@ -12,41 +13,71 @@ use Rattle.error.specs.declared.InternalErrorCode.the-variants.{ContextIndexOob
 use Rattle.error.specs.declared.Outcome.the-variants as outcome
 use Rattle.children.specs.declared.Answer.{Answer}
 use Rattle.children.specs.declared.Answer.the-variants.{Marks, Refused}
-use Rattle.children.specs.Marks.{slotCount}
+use Rattle.children.specs.Marks.{slotCount, marked}
 use Rattle.children.proofs.Cases.{two, ltb-true, ltb-false}
+use Rattle.table.specs.declared.context.Context.{Context}
 use Rattle.table.specs.declared.state.State.{State}
 use Rattle.table.specs.declared.state.Found.{Found}
 use Rattle.table.specs.declared.state.Found.the-variants as found
 use Rattle.table.specs.Context.{slotOf}
 use Rattle.forest.specs.Destroy.{doomedWord}
 use Rattle.lookup.specs.Lookup.{lookupIn}
-use Rattle.walks.specs.Walks.{descendantsIn, runIn}
+use Rattle.links.specs.declared.Links.{Links}
+use Rattle.links.specs.Summary.{summaryOf, numberIn}
+use Rattle.walks.specs.Walks.{downFrom, descendantsIn, runFrom, runIn}
+use Rattle.walks.proofs.Summary.{down-summary, run-summary}
 use Rattle.destroy_context.specs.declared.Destroyed.{Destroyed}
-use Rattle.destroy_context.specs.Destroy.{clearedBy, refusedBy, onDown, onRun, destroySlotOf, onFound, destroyOf}
+use Rattle.destroy_context.specs.Destroy.{clearedBy, refusedBy, onDown, onRun, doomedOf, doomedIn, onDoomed, destroySlotOf, onFound, destroyOf}
+
+-- ---- the slots that go, over the links of all slots
+
+module _ (n : ℕ) (live retired : ℕ → Bool) (parent kids : ℕ → ℕ) (slot : ℕ) where
+  pub doomed-outside : n ≤ slot → doomedOf n live retired parent kids slot ≡ Refused (InternalError ContextIndexOob)
+  unfolding doomedOf
+  doomed-outside h = rw (le-ltb slot n h)
+
+  module _ (h : slot < n) where
+    pub doomed-run : (e : DpeErrorCode) → runFrom n retired parent kids (parent slot) ≡ Refused e → doomedOf n live retired parent kids slot ≡ Refused e
+    unfolding doomedOf onRun
+    doomed-run e q = rw (lt-ltb slot n h, q)
+
+    pub doomed-down : (run : ℕ) (e : DpeErrorCode) → runFrom n retired parent kids (parent slot) ≡ Marks run → downFrom n live kids slot ≡ Refused e
+        → doomedOf n live retired parent kids slot ≡ Refused e
+    unfolding doomedOf onRun onDown
+    doomed-down run e p q = rw (lt-ltb slot n h, p, q)
+
+    pub doomed-both : (run down : ℕ) → runFrom n retired parent kids (parent slot) ≡ Marks run → downFrom n live kids slot ≡ Marks down
+        → doomedOf n live retired parent kids slot ≡ Marks (doomedWord down slot run)
+    unfolding doomedOf onRun onDown
+    doomed-both run down p q = rw (lt-ltb slot n h, p, q)
+
+-- the summary of a table says the same slots
+pub doomed-summary : (s : ℕ → Context) (l : Links) → l ≡ summaryOf s → (slot : ℕ)
+    → doomedOf slotCount (marked (l .live)) (marked (l .retired)) (numberIn (l .parents)) (numberIn (l .children)) slot ≡ doomedIn slotCount s slot
+unfolding doomedOf descendantsIn
+doomed-summary s l e slot = elim (two (ltb slot slotCount)) [
+  | inl y ↦
+      let h = ltb-true slot slotCount y in
+      let down = down-summary s l e slot h in
+      let run = run-summary s l e slot h in
+      rw y (ap₂ (onRun slot) (rw y at down) run)
+  | inr n ↦ rw n
+]
 
 module _ (t : State) (slot : ℕ) where
-  pub slot-outside : slotCount ≤ slot → destroySlotOf t slot ≡ refusedBy t (InternalError ContextIndexOob)
-  unfolding destroySlotOf
-  slot-outside h = rw (le-ltb slot slotCount h)
+  pub slot-refused : (e : DpeErrorCode) → doomedIn slotCount (slotOf (t .contexts)) slot ≡ Refused e → destroySlotOf t slot ≡ refusedBy t e
+  unfolding destroySlotOf onDoomed
+  slot-refused e q = ap (onDoomed t) q
 
-  pub slot-inside : slot < slotCount → destroySlotOf t slot ≡ onRun t slot (runIn slotCount (slotOf (t .contexts)) slot)
-  unfolding destroySlotOf
-  slot-inside h = rw (lt-ltb slot slotCount h)
+  pub slot-cleared : (set : ℕ) → doomedIn slotCount (slotOf (t .contexts)) slot ≡ Marks set
+      → destroySlotOf t slot ≡ record { answer = outcome.Done; state = clearedBy t set }
+  unfolding destroySlotOf onDoomed
+  slot-cleared set q = ap (onDoomed t) q
 
-  module _ (h : slot < slotCount) where
-    pub run-refused : (e : DpeErrorCode) → runIn slotCount (slotOf (t .contexts)) slot ≡ Refused e → destroySlotOf t slot ≡ refusedBy t e
-    unfolding onRun
-    run-refused e q = slot-inside h ∙ ap (onRun t slot) q
-
-    pub down-refused : (run : ℕ) (e : DpeErrorCode) → runIn slotCount (slotOf (t .contexts)) slot ≡ Marks run
-        → descendantsIn slotCount (slotOf (t .contexts)) slot ≡ Refused e → destroySlotOf t slot ≡ refusedBy t e
-    unfolding onRun onDown
-    down-refused run e p q = slot-inside h ∙ ap (onRun t slot) p ∙ ap (onDown t slot run) q
-
-    pub both-walked : (run down : ℕ) → runIn slotCount (slotOf (t .contexts)) slot ≡ Marks run → descendantsIn slotCount (slotOf (t .contexts)) slot ≡ Marks down
-        → destroySlotOf t slot ≡ record { answer = outcome.Done; state = clearedBy t (doomedWord down slot run) }
-    unfolding onRun onDown
-    both-walked run down p q = slot-inside h ∙ ap (onRun t slot) p ∙ ap (onDown t slot run) q
+  pub both-walked : slot < slotCount → (run down : ℕ) → runIn slotCount (slotOf (t .contexts)) slot ≡ Marks run → descendantsIn slotCount (slotOf (t .contexts)) slot ≡ Marks down
+      → destroySlotOf t slot ≡ record { answer = outcome.Done; state = clearedBy t (doomedWord down slot run) }
+  unfolding descendantsIn
+  both-walked h run down p q = slot-cleared (doomedWord down slot run) (doomed-both slotCount _ _ _ _ slot h run down p (rw (lt-ltb slot slotCount h) at q))
 
 module _ (t : State) (handle : List ℕ) (l : ℕ) where
   pub not-found : (e : DpeErrorCode) → lookupIn slotCount (slotOf (t .contexts)) handle l ≡ found.Refused e → destroyOf t handle l ≡ refusedBy t e
@@ -67,28 +98,18 @@ module _ (t : State) where
   refusal-kept : (f : DpeErrorCode) → Kept (refusedBy t f)
   refusal-kept f e p = ap (refusedBy t) (let z : f ≡ e = cc in z)
 
-  down-kept : (slot run : ℕ) (a : Answer) → Kept (onDown t slot run a)
-  unfolding onDown
-  down-kept slot run (Marks down) e p = absurd (let z : _≡_ {A = ℕ} 0 1 = cc in omega arith)
-  down-kept slot run (Refused f) e p = refusal-kept f e p
+  doomed-kept : (a : Answer) → Kept (onDoomed t a)
+  unfolding onDoomed
+  doomed-kept (Marks set) e p = absurd (let z : _≡_ {A = ℕ} 0 1 = cc in omega arith)
+  doomed-kept (Refused f) e p = refusal-kept f e p
 
-  run-kept : (slot : ℕ) (a : Answer) → Kept (onRun t slot a)
-  unfolding onRun
-  run-kept slot (Marks run) e p = down-kept slot run (descendantsIn slotCount (slotOf (t .contexts)) slot) e p
-  run-kept slot (Refused f) e p = refusal-kept f e p
-
-  moved : {d f : Destroyed} → d ≡ f → Kept f → Kept d
-  moved q k e p = q ∙ k e (sym (ap (λ (x : Destroyed). x .answer) q) ∙ p)
-
-  pub slot-refused : (slot : ℕ) → Kept (destroySlotOf t slot)
-  slot-refused slot = elim (two (ltb slot slotCount)) [
-    | inl y ↦ moved (slot-inside t slot (ltb-true slot slotCount y)) (run-kept slot (runIn slotCount (slotOf (t .contexts)) slot))
-    | inr n ↦ moved (slot-outside t slot (ltb-false slot slotCount n)) (refusal-kept (InternalError ContextIndexOob))
-  ]
+  pub slot-kept : (slot : ℕ) → Kept (destroySlotOf t slot)
+  unfolding destroySlotOf
+  slot-kept slot = doomed-kept (doomedIn slotCount (slotOf (t .contexts)) slot)
 
   found-kept : (f : Found) → Kept (onFound t f)
   unfolding onFound
-  found-kept (found.At slot) = slot-refused slot
+  found-kept (found.At slot) = slot-kept slot
   found-kept (found.Refused f) = refusal-kept f
 
   pub refused : (handle : List ℕ) (l : ℕ) → Kept (destroyOf t handle l)

@@ -19,7 +19,8 @@ use Rattle.table.specs.Context.{destroyed, withChildren, slotOf}
 use Rattle.table.specs.State.{withContexts}
 use Rattle.forest.specs.Destroy.{doomedWord}
 use Rattle.lookup.specs.Lookup.{lookupIn}
-use Rattle.walks.specs.Walks.{descendantsIn, runIn}
+use Rattle.links.specs.Summary.{liveAt, retiredAt, parentAt, kidsAt}
+use Rattle.walks.specs.Walks.{downFrom, runFrom}
 use Rattle.destroy_context.specs.declared.Destroyed.{Destroyed}
 
 -- the context c of slot i: cleared where the set has the slot, and else without the marks of the set, all 64 of them
@@ -34,19 +35,32 @@ clearedBy t set = withContexts t (listOf (λ i. clearedSlot set i (slotOf (t .co
 abbrev pub refusedBy : State → DpeErrorCode → Destroyed
 refusedBy t e = record { answer = outcome.Refused e; state = t }
 
--- with the run above and the descendants: the slot, its descendants and the run are cleared
-unfoldable pub onDown : State → ℕ → ℕ → Answer → Destroyed
-onDown t slot run (Marks down) = record { answer = outcome.Done; state = clearedBy t (doomedWord down slot run) }
-onDown t slot run (Refused e) = refusedBy t e
+-- with the run above and the descendants: the slot, its descendants and the run go
+unfoldable pub onDown : ℕ → ℕ → Answer → Answer
+onDown slot run (Marks down) = Marks (doomedWord down slot run)
+onDown slot run (Refused e) = Refused e
 
 -- with the run above: then the descendants
-unfoldable pub onRun : State → ℕ → Answer → Destroyed
-onRun t slot (Marks run) = onDown t slot run (descendantsIn slotCount (slotOf (t .contexts)) slot)
-onRun t slot (Refused e) = refusedBy t e
+unfoldable pub onRun : ℕ → Answer → Answer → Answer
+onRun slot down (Marks run) = onDown slot run down
+onRun slot down (Refused e) = Refused e
 
--- destroy of a slot: the walk up first
+-- the slots that go with a slot, as the links of all slots say it: the walk up first
+unfoldable pub doomedOf : ℕ → (ℕ → Bool) → (ℕ → Bool) → (ℕ → ℕ) → (ℕ → ℕ) → ℕ → Answer
+doomedOf n live retired parent kids slot =
+    cond (ltb slot n) (onRun slot (downFrom n live kids slot) (runFrom n retired parent kids (parent slot))) (Refused (InternalError ContextIndexOob))
+
+abbrev pub doomedIn : ℕ → (ℕ → Context) → ℕ → Answer
+doomedIn n s slot = doomedOf n (liveAt s) (retiredAt s) (parentAt s) (kidsAt s) slot
+
+-- they are cleared, or the table stays as it was
+unfoldable pub onDoomed : State → Answer → Destroyed
+onDoomed t (Marks set) = record { answer = outcome.Done; state = clearedBy t set }
+onDoomed t (Refused e) = refusedBy t e
+
+-- destroy of a slot
 unfoldable pub destroySlotOf : State → ℕ → Destroyed
-destroySlotOf t slot = cond (ltb slot slotCount) (onRun t slot (runIn slotCount (slotOf (t .contexts)) slot)) (refusedBy t (InternalError ContextIndexOob))
+destroySlotOf t slot = onDoomed t (doomedIn slotCount (slotOf (t .contexts)) slot)
 
 unfoldable pub onFound : State → Found → Destroyed
 onFound t (found.At slot) = destroySlotOf t slot

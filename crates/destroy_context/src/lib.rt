@@ -4,6 +4,7 @@ use children::MAX_HANDLES;
 use error::DpeErrorCode;
 use error::InternalErrorCode;
 use error::Outcome;
+use links::Links;
 use table::context::Context;
 use table::handle;
 use table::state::Found;
@@ -12,8 +13,9 @@ use walks::descendants;
 use walks::run;
 ghost use mathlib.Core.Path.{_≡_};
 ghost use Prim.Native.Nat.{_<_};
-ghost use Rattle.children.specs.Marks.{slotCount};
-ghost use Rattle.destroy_context.specs.Destroy.{clearedSlot, clearedBy, refusedBy, destroySlotOf, destroyOf};
+ghost use Rattle.children.specs.Marks.{slotCount, marked};
+ghost use Rattle.links.specs.Summary.{numberIn};
+ghost use Rattle.destroy_context.specs.Destroy.{clearedSlot, clearedBy, refusedBy, doomedOf, destroySlotOf, destroyOf};
 
 // How a destroy ended, and the table.
 pub struct Destroyed {
@@ -56,29 +58,37 @@ pub fn cleared(t: State, set: u64) -> State
     u
 }
 
-// Destroys the context of a slot.
-pub fn destroy_slot(t: State, slot: usize) -> Destroyed
-    ensures { λ r. ⌜ r ≡ destroySlotOf t slot ⌝ }
+// The slots that go with a slot, as marks: itself, all that is below it, and the run above it. The walk up comes first.
+pub fn doomed(l: Links, slot: usize) -> Answer
+    ensures { λ r. ⌜ r ≡ doomedOf slotCount (marked (l .live)) (marked (l .retired)) (numberIn (l .parents)) (numberIn (l .children)) slot ⌝ }
 {
     if slot >= MAX_HANDLES {
-        return refused(
-            t,
-            DpeErrorCode::InternalError(InternalErrorCode::ContextIndexOob),
-        );
+        return Answer::Refused(DpeErrorCode::InternalError(InternalErrorCode::ContextIndexOob));
     }
-    let l = links::links_of(t);
     let children = l.children;
     let parents = l.parents;
     let start = parents[slot];
     let above = run::run_above(&children, &parents, l.retired, start);
     let Answer::Marks(retired) = above else {
-        return refused(t, walks::why(above));
+        return above;
     };
     let below = descendants::descend(&children, l.live, children::empty(), slot, MAX_HANDLES);
     let Answer::Marks(down) = below else {
-        return refused(t, walks::why(below));
+        return below;
     };
     let set = children::add_children(children::with(down, slot), retired);
+    Answer::Marks(set)
+}
+
+// Destroys the context of a slot.
+pub fn destroy_slot(t: State, slot: usize) -> Destroyed
+    ensures { λ r. ⌜ r ≡ destroySlotOf t slot ⌝ }
+{
+    let l = links::links_of(t);
+    let gone = doomed(l, slot);
+    let Answer::Marks(set) = gone else {
+        return refused(t, walks::why(gone));
+    };
     Destroyed {
         answer: Outcome::Done,
         state: cleared(t, set),

@@ -19,7 +19,7 @@ use Rattle.table.specs.declared.state.NewHandle.{NewHandle}
 use Rattle.table.specs.Context.{slotOf}
 use Rattle.table.specs.State.{countIn, refusedOf}
 use Rattle.image.specs.Context.{stateOf, first}
-use Rattle.image.specs.State.{decodeState, encodeState, readableOf}
+use Rattle.image.specs.State.{decodeState, readableOf}
 use Rattle.verdict.specs.Tests.{verdictOf, outcomeOf}
 use Rattle.lookup.specs.Lookup.{lookupIn}
 use Rattle.initialize_context.specs.Initialize.{initializedOf}
@@ -29,6 +29,7 @@ use Rattle.walks.specs.Walks.{descendantsIn}
 use Rattle.walks.specs.Path.{pathIn}
 use Rattle.destroy_context.specs.declared.Destroyed.{Destroyed}
 use Rattle.destroy_context.specs.Destroy.{destroyOf, refusedBy}
+use Rattle.place.specs.Place.{bytesPlace}
 
 -- ---- an answer as a word, and what a lent place holds then
 
@@ -50,25 +51,13 @@ abbrev pub marksPlace : Answer → ℕ → ℕ
 marksPlace (answer.Marks m) old = m
 marksPlace (answer.Refused e) old = old
 
--- bytes that are written for success alone
-abbrev pub bytesPlace : Outcome → List ℕ → List ℕ → List ℕ
-bytesPlace Done new old = new
-bytesPlace (Refused e) new old = old
-
 abbrev pub slotsPlace : Found → List ℕ → List ℕ → List ℕ
 slotsPlace (found.At k) new old = new
 slotsPlace (found.Refused e) new old = old
 
--- the image, and the place of the new handle, after a call that answers a table and a handle
-abbrev pub imageAfter : NewHandle → List ℕ → List ℕ
-imageAfter n l = bytesPlace (n .answer) (encodeState (n .state)) l
-
+-- the place of the new handle; what the image holds stands in place/specs
 abbrev pub handlePlace : NewHandle → List ℕ → List ℕ
 handlePlace n old = bytesPlace (n .answer) (n .handle) old
-
--- the image after a destroy
-abbrev pub destroyedAfter : Destroyed → List ℕ → List ℕ
-destroyedAfter d l = bytesPlace (d .answer) (encodeState (d .state)) l
 
 -- ---- after reading
 

@@ -1,17 +1,22 @@
-// The exported calls, over a lent image of 4,624 bytes. include/duottarok.h says what each asks of its pointers.
+// The exported calls, over a lent image of 4,624 bytes, in place. include/duottarok.h says what each asks of its pointers.
 use children::Answer;
 use children::MAX_HANDLES;
 use error::DpeErrorCode;
 use error::Outcome;
 use image::context;
 use image::state;
+use peek::find;
+use peek::validate;
+use peek::walk;
+use place::destroy;
+use place::initialize;
+use place::rotate;
 use table::handle;
 use table::state::Found;
-use walks::descendants;
-use walks::path;
 ghost use mathlib.Core.Path.{_≡_};
 ghost use Rattle.error.specs.Numbers.{wordOf};
-ghost use Rattle.duottarok.specs.Exports.{validateAt, foundWord, foundPlace, marksWord, marksPlace, slotsPlace, imageAfter, handlePlace, destroyedAfter, lookupAt, initializeAt, rotateAt, destroyAt, descendantsAt, pathAt, lengthAt, countAt};
+ghost use Rattle.place.specs.Place.{imageAfter, destroyedAfter};
+ghost use Rattle.duottarok.specs.Exports.{validateAt, foundWord, foundPlace, marksWord, marksPlace, slotsPlace, handlePlace, lookupAt, initializeAt, rotateAt, destroyAt, descendantsAt, pathAt, lengthAt, countAt};
 
 fn wide(x: usize) -> u64
     ensures { λ r. ⌜ r ≡ x ⌝ }
@@ -31,13 +36,11 @@ fn refused(e: DpeErrorCode) -> u64
 pub extern "C" fn dpe_validate(image: &[u8]) -> u64
     ensures { λ r. ⌜ r ≡ wordOf (validateAt (now (image .entry))) ⌝ }
 {
-    let read = state::read_state(image);
-    let answer = read.answer;
+    let answer = state::readable(image);
     let Outcome::Done = answer else {
         return error::word(answer);
     };
-    let t = read.state;
-    error::word(validation::outcome(validation::validate_dpe(t)))
+    error::word(validation::outcome(validate::validate_dpe(image)))
 }
 
 // Finds the active context of a locality that has a handle.
@@ -51,13 +54,11 @@ pub extern "C" fn dpe_lookup(
     ensures { λ r. ⌜ r ≡ foundWord (lookupAt (now (image .entry)) (now (handle .entry)) locality) ⌝ }
     ensures { λ _. ⌜ now (slot .exit) ≡ foundPlace (lookupAt (now (image .entry)) (now (handle .entry)) locality) (now (slot .entry)) ⌝ }
 {
-    let read = state::read_state(image);
-    let answer = read.answer;
+    let answer = state::readable(image);
     let Outcome::Done = answer else {
         return error::word(answer);
     };
-    let t = read.state;
-    match lookup::get_active_context_pos(t, *handle, locality) {
+    match find::get_active_context_pos(image, *handle, locality) {
         Found::At(i) => {
             *slot = wide(i);
             0
@@ -79,20 +80,16 @@ pub extern "C" fn dpe_initialize_context(
     ensures { λ _. ⌜ now (image .exit) ≡ imageAfter (initializeAt (now (image .entry)) flags locality (now (candidates .entry))) (now (image .entry)) ⌝ }
     ensures { λ _. ⌜ now («new_handle» .exit) ≡ handlePlace (initializeAt (now (image .entry)) flags locality (now (candidates .entry))) (now («new_handle» .entry)) ⌝ }
 {
-    let read = state::read_state(image);
-    let answer = read.answer;
+    let answer = state::readable(image);
     let Outcome::Done = answer else {
         return error::word(answer);
     };
-    let t = read.state;
-    let made = initialize_context::initialize_context(t, flags, locality, candidates);
+    let made = initialize::initialize_context(image, flags, locality, candidates);
     let ended = made.answer;
     let Outcome::Done = ended else {
         return error::word(ended);
     };
-    let u = made.state;
     let h = made.handle;
-    state::write_state(u, image);
     *new_handle = h;
     0
 }
@@ -111,20 +108,16 @@ pub extern "C" fn dpe_rotate_context(
     ensures { λ _. ⌜ now (image .exit) ≡ imageAfter (rotateAt (now (image .entry)) (now (handle .entry)) locality flags (now (candidates .entry))) (now (image .entry)) ⌝ }
     ensures { λ _. ⌜ now («new_handle» .exit) ≡ handlePlace (rotateAt (now (image .entry)) (now (handle .entry)) locality flags (now (candidates .entry))) (now («new_handle» .entry)) ⌝ }
 {
-    let read = state::read_state(image);
-    let answer = read.answer;
+    let answer = state::readable(image);
     let Outcome::Done = answer else {
         return error::word(answer);
     };
-    let t = read.state;
-    let made = rotate_context::rotate_context(t, *handle, locality, flags, candidates);
+    let made = rotate::rotate_context(image, *handle, locality, flags, candidates);
     let ended = made.answer;
     let Outcome::Done = ended else {
         return error::word(ended);
     };
-    let u = made.state;
     let h = made.handle;
-    state::write_state(u, image);
     *new_handle = h;
     0
 }
@@ -139,20 +132,11 @@ pub extern "C" fn dpe_destroy_context(
     ensures { λ r. ⌜ r ≡ wordOf (destroyAt (now (image .entry)) (now (handle .entry)) locality .answer) ⌝ }
     ensures { λ _. ⌜ now (image .exit) ≡ destroyedAfter (destroyAt (now (image .entry)) (now (handle .entry)) locality) (now (image .entry)) ⌝ }
 {
-    let read = state::read_state(image);
-    let answer = read.answer;
+    let answer = state::readable(image);
     let Outcome::Done = answer else {
         return error::word(answer);
     };
-    let t = read.state;
-    let gone = destroy_context::destroy_context(t, *handle, locality);
-    let ended = gone.answer;
-    let Outcome::Done = ended else {
-        return error::word(ended);
-    };
-    let u = gone.state;
-    state::write_state(u, image);
-    0
+    error::word(destroy::destroy_context(image, *handle, locality))
 }
 
 // All that is below a slot, as marks.
@@ -161,13 +145,11 @@ pub extern "C" fn dpe_descendants(image: &[u8], slot: usize, marks: &mut u64) ->
     ensures { λ r. ⌜ r ≡ marksWord (descendantsAt (now (image .entry)) slot) ⌝ }
     ensures { λ _. ⌜ now (marks .exit) ≡ marksPlace (descendantsAt (now (image .entry)) slot) (now (marks .entry)) ⌝ }
 {
-    let read = state::read_state(image);
-    let answer = read.answer;
+    let answer = state::readable(image);
     let Outcome::Done = answer else {
         return error::word(answer);
     };
-    let t = read.state;
-    match descendants::get_descendants(t, slot) {
+    match walk::get_descendants(image, slot) {
         Answer::Marks(m) => {
             *marks = m;
             0
@@ -188,13 +170,11 @@ pub extern "C" fn dpe_path(
     ensures { λ _. ⌜ now (slots .exit) ≡ slotsPlace (lengthAt (now (image .entry)) slot) (pathAt (now (image .entry)) slot .slots) (now (slots .entry)) ⌝ }
     ensures { λ _. ⌜ now (length .exit) ≡ foundPlace (lengthAt (now (image .entry)) slot) (now (length .entry)) ⌝ }
 {
-    let read = state::read_state(image);
-    let answer = read.answer;
+    let answer = state::readable(image);
     let Outcome::Done = answer else {
         return error::word(answer);
     };
-    let t = read.state;
-    let found = path::root_to_leaf(t, slot);
+    let found = walk::root_to_leaf(image, slot);
     let k = found.length;
     match k {
         Found::At(n) => {
@@ -213,15 +193,13 @@ pub extern "C" fn dpe_count(image: &[u8], state: u8, count: &mut u64) -> u64
     ensures { λ r. ⌜ r ≡ foundWord (countAt (now (image .entry)) state) ⌝ }
     ensures { λ _. ⌜ now (count .exit) ≡ foundPlace (countAt (now (image .entry)) state) (now (count .entry)) ⌝ }
 {
-    let read = state::read_state(image);
-    let answer = read.answer;
+    let answer = state::readable(image);
     let Outcome::Done = answer else {
         return error::word(answer);
     };
     if state >= 3 {
         return refused(DpeErrorCode::InvalidArgument);
     }
-    let t = read.state;
-    *count = wide(table::state::count_contexts(t, context::state_of(state)));
+    *count = wide(find::count_contexts(image, context::state_of(state)));
     0
 }

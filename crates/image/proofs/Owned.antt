@@ -33,6 +33,15 @@ bytes-of (x ∷ xs) (u ∷ us) p = bytes-cons (p .0 .1) (bytes-of xs us (p .1))
 run-of : (n : ℕ) (xs : List ℕ) (vs : List Val) → Is (Array u8 n) (map (u8-field .into) xs) vs → Run n xs
 run-of n xs vs p = record { size = sym (length-map xs _) ∙ p .1 .0 .1; bytes = bytes-of xs (p .0) (p .1 .1) }
 
+-- the same of an array that stands alone
+bytes-own : (xs : List ℕ) (us : List Val) → shadow (each ℕ (u8 .own) xs us) → Bytes xs
+bytes-own [] us p = bytes-none
+bytes-own (x ∷ xs) [] p = absurd p
+bytes-own (x ∷ xs) (u ∷ us) p = bytes-cons (p .0 .1) (bytes-own xs us (p .1))
+
+pub array-run : (n : ℕ) (xs : List ℕ) (vs : List Val) → Is (Array u8 n) xs vs → Run n xs
+array-run n xs vs p = record { size = p .1 .0 .1; bytes = bytes-own xs (p .0) (p .1 .1) }
+
 pub tci-fits : (t : TciNodeData) (vs : List Val) → Is (tci.the-field .row) (tci.the-field .into t) vs → FitsTci t
 tci-fits t vs p = record {
   kind = p .1 .1 .0 .1;

@@ -14,9 +14,9 @@ ghost use Rattle.wire.specs.Le.{put};
 ghost use Rattle.image.specs.State.{contextsAt, stateSize, slotIn, decodeState, blankState, readableOf, readState, encodeSlots, writeAnswer, written};
 
 // Where the fields of a state lie in it; the contexts stand one after the other, and four more fields follow them.
-const MARKER_AT: usize = 0;
+pub const MARKER_AT: usize = 0;
 
-const VERSION_AT: usize = 4;
+pub const VERSION_AT: usize = 4;
 
 pub const CONTEXTS_AT: usize = 8;
 

@@ -20,7 +20,7 @@ ghost use Rattle.table.specs.Context.{activeContext};
 ghost use Rattle.initialize_context.specs.Initialize.{notSupported, bothOrNeither, rootArgs, defaultIn, simulationOf, initializedOf};
 
 // Whether the default context is asked for again, or a simulation that is not supported.
-fn not_supported(support: u32, has_initialized: u8, flags: u32) -> bool
+pub fn not_supported(support: u32, has_initialized: u8, flags: u32) -> bool
     ensures { λ r. ⌜ r ≡ notSupported support «has_initialized» flags ⌝ }
 {
     let again = flags::flag_is_default(flags) & u8bool::get(has_initialized);
@@ -29,14 +29,14 @@ fn not_supported(support: u32, has_initialized: u8, flags: u32) -> bool
 }
 
 // Whether both flags are set, or neither.
-fn both_or_neither(flags: u32) -> bool
+pub fn both_or_neither(flags: u32) -> bool
     ensures { λ r. ⌜ r ≡ bothOrNeither flags ⌝ }
 {
     !(flags::flag_is_default(flags) ^ flags::flag_is_simulation(flags))
 }
 
 // A new context with no parent.
-fn root(
+pub fn root(
     context_type: ContextType,
     handle: [u8; handle::SIZE],
     locality: u32,

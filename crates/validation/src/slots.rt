@@ -224,7 +224,7 @@ fn state_test(
 }
 
 // The context of the slot i: support, then by its state, then its locality.
-fn context_test(
+pub fn context_test(
     c: Context,
     word: u32,
     init: u8,

@@ -20,10 +20,13 @@ toldOf e loops = Refused (Added WalkLoops)
 toldOf e bad = Refused e
 toldOf e (ok w) = Marks w
 
+-- the walk down from a slot
+abbrev pub downFrom : ℕ → (ℕ → Bool) → (ℕ → ℕ) → ℕ → Answer
+downFrom n live kids slot = toldOf InvalidHandle (walkDown n live kids n 0 slot)
+
 -- the descendants of a slot
 unfoldable pub descendantsIn : ℕ → (ℕ → Context) → ℕ → Answer
-descendantsIn n s slot =
-    cond (ltb slot n) (toldOf InvalidHandle (walkDown n (liveAt s) (kidsAt s) n 0 slot)) (Refused (InternalError ContextIndexOob))
+descendantsIn n s slot = cond (ltb slot n) (downFrom n (liveAt s) (kidsAt s) slot) (Refused (InternalError ContextIndexOob))
 
 -- the run from the slot p upward
 unfoldable pub runFrom : ℕ → (ℕ → Bool) → (ℕ → ℕ) → (ℕ → ℕ) → ℕ → Answer

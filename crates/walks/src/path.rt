@@ -11,7 +11,7 @@ ghost use Rattle.children.specs.Marks.{slotCount, marked};
 ghost use Rattle.table.specs.Context.{slotOf};
 ghost use Prim.Native.Nat.{_<_};
 ghost use Rattle.links.specs.Summary.{numberIn, stepsUp};
-ghost use Rattle.walks.specs.Path.{parentOf, lengthFrom, slotsOf, pathIn, Climbs};
+ghost use Rattle.walks.specs.Path.{parentOf, lengthFrom, slotsOf, pathOf, pathIn, Climbs};
 
 // A path: how many slots it has, or why there is none; and the slots from the root on, 0 after the last.
 pub struct Path {
@@ -20,7 +20,7 @@ pub struct Path {
 }
 
 // The parent of a slot that may stand on a path.
-pub fn parent_of(parents: &[u8; MAX_HANDLES], live: u64, slot: usize) -> Found
+fn parent_of(parents: &[u8; MAX_HANDLES], live: u64, slot: usize) -> Found
     ensures { λ r. ⌜ r ≡ parentOf slotCount (marked live) (numberIn (now (parents .entry))) slot ⌝ }
 {
     if slot >= MAX_HANDLES {
@@ -40,7 +40,7 @@ pub fn parent_of(parents: &[u8; MAX_HANDLES], live: u64, slot: usize) -> Found
 }
 
 // How many slots the path to a slot has.
-pub fn length(parents: &[u8; MAX_HANDLES], live: u64, slot: usize) -> Found
+fn length(parents: &[u8; MAX_HANDLES], live: u64, slot: usize) -> Found
     ensures { λ r. ⌜ r ≡ lengthFrom slotCount (marked live) (numberIn (now (parents .entry))) slotCount 0 slot ⌝ }
 {
     let mut x = slot;
@@ -82,17 +82,24 @@ fn laid(parents: &[u8; MAX_HANDLES], slot: usize, k: usize) -> [u8; MAX_HANDLES]
     slots
 }
 
+// The path from the root down to a slot, over the parents and the live slots of a table.
+pub fn climbed(parents: &[u8; MAX_HANDLES], live: u64, slot: usize) -> Path
+    ensures { λ r. ⌜ r ≡ pathOf slotCount (marked live) (numberIn (now (parents .entry))) slot ⌝ }
+{
+    let length = length(parents, live, slot);
+    let Found::At(k) = length else {
+        let slots = [0u8; MAX_HANDLES];
+        return Path { length, slots };
+    };
+    let slots = laid(parents, slot, k);
+    Path { length, slots }
+}
+
 // The path from the root down to a slot.
 pub fn root_to_leaf(t: State, slot: usize) -> Path
     ensures { λ r. ⌜ r ≡ pathIn slotCount (slotOf (t .contexts)) slot ⌝ }
 {
     let l = links::links_of(t);
     let parents = l.parents;
-    let length = length(&parents, l.live, slot);
-    let Found::At(k) = length else {
-        let slots = [0u8; MAX_HANDLES];
-        return Path { length, slots };
-    };
-    let slots = laid(&parents, slot, k);
-    Path { length, slots }
+    climbed(&parents, l.live, slot)
 }

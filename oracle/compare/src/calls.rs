@@ -158,7 +158,7 @@ pub fn theirs(call: &Call, image: &mut Image) -> Answer {
 }
 
 /// A value goes to its place; a refusal leaves the place alone.
-fn place<T>(to: &mut T, answer: Result<T, Code>) -> Code {
+pub fn place<T>(to: &mut T, answer: Result<T, Code>) -> Code {
     match answer {
         Ok(v) => {
             *to = v;

@@ -123,12 +123,20 @@ pub fn descendants(s: &State, slot: usize) -> Result<u64, Code> {
     let c: &Context = s.contexts.get(slot).ok_or(Code(1, 30))?;
     s.get_descendants(c).map(|c: Children| c.bits()).map_err(code)
 }
-pub fn path(s: &State, slot: usize) -> Result<Vec<u8>, Code> {
+/// The path to a lent place, and its length.
+pub fn path_to(s: &State, slot: usize, slots: &mut [u8; SLOTS]) -> Result<usize, Code> {
     let base = s.contexts.as_ptr();
     let it = RootToChildIter::new(slot, &s.contexts).map_err(code)?;
-    Ok(it
-        .map(|c| unsafe { (c as *const Context).offset_from(base) as u8 })
-        .collect())
+    Ok(slots
+        .iter_mut()
+        .zip(it)
+        .map(|(to, c)| *to = unsafe { (c as *const Context).offset_from(base) as u8 })
+        .count())
+}
+pub fn path(s: &State, slot: usize) -> Result<Vec<u8>, Code> {
+    let mut slots = [0; SLOTS];
+    let length = path_to(s, slot, &mut slots)?;
+    Ok(slots[..length].to_vec())
 }
 pub fn count(s: &State, state: u8) -> usize {
     s.count_contexts(|c| {

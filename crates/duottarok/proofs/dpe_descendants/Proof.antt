@@ -2,18 +2,15 @@
 use mathlib.Core.Path.{sym, ap, _∙_}
 use denote.Ref.{now}
 use Rattle.error.specs.Numbers.{wordOf}
-use Rattle.children.specs.Marks.{slotCount}
-use Rattle.table.specs.declared.state.State.{State}
-use Rattle.table.specs.Context.{slotOf}
-use Rattle.walks.specs.Walks.{descendantsIn}
+use Rattle.image.proofs.Reading.{readable-size}
 use Rattle.duottarok.specs.Exports.{descendantsAt}
 use Rattle.duottarok.proofs.Exports.{unread-marks, read-marks, marks-refused, marks-found}
 use borrow.Author.Needs.{needs}
 use Rattle.duottarok.proofs.dpe_descendants.Statement.{statement}
 use Rattle.duottarok.proofs.dpe_descendants.Tie as tie
 
-read-state-requires : tie.Need-read-state-requires
-read-state-requires c κs = search needs
+readable-requires : tie.Need-readable-requires
+readable-requires c κs = search needs
 
 enum-told : tie.Need-enum-told
 enum-told c = search needs
@@ -27,13 +24,10 @@ word-requires c κs = search needs
 returns : tie.Need-returns
 returns c =
     let a = c .before .before .before .before .before .args in
-    let q = c .before .enum-told2 .given .1 in
-    marks-refused (descendantsAt (now (a .image)) (a .slot)) _ (now (a .marks)) _
-    (unread-marks (now (c .before .before .before .before .before .args .image)) (c .before .before .before .read-state .result) (c .before .before .before .read-state .ensures) _ q (λ (t : State). descendantsIn slotCount (slotOf (t .contexts)) (a .slot)))
-    (c .word .ensures ∙ ap wordOf q)
+    marks-refused (descendantsAt (now (a .image)) (a .slot)) _ (now (a .marks)) _ (unread-marks _ _ (sym (c .before .before .before .readable .ensures) ∙ c .before .enum-told2 .given .1) _) (c .word .ensures ∙ ap wordOf (c .before .enum-told2 .given .1))
 
 get-descendants-requires : tie.Need-get-descendants-requires
-get-descendants-requires c κs = search needs
+get-descendants-requires c κs = readable-size _ (sym (c .before .before .readable .ensures) ∙ c .enum-told .given .1)
 
 enum-known-m : tie.Need-enum-known-m
 enum-known-m c = search needs
@@ -46,24 +40,19 @@ refused-requires c κs = search needs
 
 returns-2 : tie.Need-returns-2
 returns-2 c =
-    let a = c .before .before .before .before .before .before .before .before .before .args in
-    marks-found (descendantsAt (now (a .image)) (a .slot)) _ (now (a .marks))
-    (read-marks (now (c .before .before .before .before .before .before .before .before .before .args .image)) (c .before .before .before .before .before .before .before .read-state .result) (c .before .before .before .before .before .before .before .read-state .ensures) (c .before .before .before .before .before .enum-told .given .1) (λ (t : State). descendantsIn slotCount (slotOf (t .contexts)) (a .slot))
-    ∙ sym (c .before .before .before .get-descendants .ensures) ∙ c .before .m .given .1)
+    let a = c .before .before .before .before .before .before .before .before .args in
+    marks-found (descendantsAt (now (a .image)) (a .slot)) _ (now (a .marks)) (read-marks _ (sym (c .before .before .before .before .before .before .readable .ensures) ∙ c .before .before .before .before .enum-told .given .1) _ ∙ sym (c .before .before .before .get-descendants .ensures) ∙ c .before .m .given .1)
 
 returns-3 : tie.Need-returns-3
 returns-3 c =
-    let a = c .before .before .before .before .before .before .before .before .before .before .args in
-    marks-refused (descendantsAt (now (a .image)) (a .slot)) _ (now (a .marks)) _
-    (read-marks (now (c .before .before .before .before .before .before .before .before .before .before .args .image)) (c .before .before .before .before .before .before .before .before .read-state .result) (c .before .before .before .before .before .before .before .before .read-state .ensures) (c .before .before .before .before .before .before .enum-told .given .1) (λ (t : State). descendantsIn slotCount (slotOf (t .contexts)) (a .slot))
-    ∙ sym (c .before .before .before .before .get-descendants .ensures) ∙ c .before .before .e .given .1)
-    (c .refused .ensures)
+    let a = c .before .before .before .before .before .before .before .before .before .args in
+    marks-refused (descendantsAt (now (a .image)) (a .slot)) _ (now (a .marks)) _ (read-marks _ (sym (c .before .before .before .before .before .before .before .readable .ensures) ∙ c .before .before .before .before .before .enum-told .given .1) _ ∙ sym (c .before .before .before .before .get-descendants .ensures) ∙ c .before .before .e .given .1) (c .refused .ensures)
 
 pub dpe-descendants-spec : {M : Type 1} → statement M
 dpe-descendants-spec =
     tie.close
     (tie.spec
-    read-state-requires
+    readable-requires
     enum-told
     enum-told-2
     word-requires

@@ -1,19 +1,22 @@
 -- `duottarok::dpe_initialize_context` meets its contract. Assumes nothing.
-use mathlib.Core.Path.{sym, ap, _∙_}
+use mathlib.Core.Path.{_≡_, sym, ap, _∙_}
 use denote.Ref.{now}
+use Rattle.error.specs.declared.Outcome.the-variants.{Done, Refused}
 use Rattle.error.specs.Numbers.{wordOf}
-use Rattle.table.specs.declared.state.State.{State}
 use Rattle.table.specs.declared.state.NewHandle.{NewHandle}
-use Rattle.image.specs.State.{encodeState}
+use Rattle.image.specs.State.{decodeState}
+use Rattle.candidates.specs.declared.Chosen.{Chosen}
 use Rattle.initialize_context.specs.Initialize.{initializedOf}
+use Rattle.place.specs.Place.{imageAfter}
+use Rattle.place.proofs.After.{after-refused}
 use Rattle.duottarok.specs.Exports.{initializeAt}
-use Rattle.duottarok.proofs.Exports.{unread-handle, read-handle, was-read, whole, handle-refused, handle-done}
+use Rattle.duottarok.proofs.Exports.{unread-handle, read-handle, kept, given}
 use borrow.Author.Needs.{needs}
 use Rattle.duottarok.proofs.dpe_initialize_context.Statement.{statement}
 use Rattle.duottarok.proofs.dpe_initialize_context.Tie as tie
 
-read-state-requires : tie.Need-read-state-requires
-read-state-requires c κs = search needs
+readable-requires : tie.Need-readable-requires
+readable-requires c κs = search needs
 
 enum-told : tie.Need-enum-told
 enum-told c = search needs
@@ -30,13 +33,12 @@ same-length c = search needs
 returns : tie.Need-returns
 returns c =
     let a = c .before .before .before .before .before .before .before .args in
-    let q = c .before .enum-told2 .given .1 in
-    handle-refused (initializeAt (now (a .image)) (a .flags) (a .locality) (now (a .candidates))) (now (a .image)) (now (a .new-handle)) _ _
-    (unread-handle (now (c .before .before .before .before .before .before .before .args .image)) (c .before .before .before .read-state .result) (c .before .before .before .read-state .ensures) _ q (λ (t : State). initializedOf t (a .flags) (a .locality) (now (a .candidates))))
-    (c .word .ensures ∙ ap wordOf q)
+    let n = initializeAt (now (a .image)) (a .flags) (a .locality) (now (a .candidates)) in
+    let e : n .answer ≡ Refused _ = unread-handle _ _ (sym (c .before .before .before .readable .ensures) ∙ c .before .enum-told2 .given .1) _ _ in
+    (c .word .ensures ∙ ap wordOf (c .before .enum-told2 .given .1 ∙ sym e), (after-refused n (now (a .image)) _ e, kept n (now (a .new-handle)) _ e))
 
 initialize-context-requires : tie.Need-initialize-context-requires
-initialize-context-requires c κs = search needs
+initialize-context-requires c κs = sym (c .before .before .before .readable .ensures) ∙ c .before .enum-told .given .1
 
 enum-told-3 : tie.Need-enum-told-3
 enum-told-3 c = search needs
@@ -52,34 +54,34 @@ same-length-2 c = search needs
 
 returns-2 : tie.Need-returns-2
 returns-2 c =
-    let a = c .before .before .before .before .before .before .before .before .before .before .before .args in
-    let m = read-handle (now (c .before .before .before .before .before .before .before .before .before .before .before .args .image)) (c .before .before .before .before .before .before .before .read-state .result) (c .before .before .before .before .before .before .before .read-state .ensures) (c .before .before .before .before .before .enum-told .given .1) (λ (t : State). initializedOf t (a .flags) (a .locality) (now (a .candidates))) ∙ sym (c .before .before .before .initialize-context .ensures) in
+    let a = c .before .before .before .before .before .before .before .before .before .before .before .before .before .args in
+    let l = now (a .image) in
+    let n = initializeAt l (a .flags) (a .locality) (now (a .candidates)) in
+    let r = read-handle _ (sym (c .before .before .before .before .before .before .before .before .before .readable .ensures) ∙ c .before .before .before .before .before .before .before .enum-told .given .1) (decodeState l) (initializedOf (decodeState l) (a .flags) (a .locality) (now (a .candidates))) in
+    let e = c .before .before .before .before .before .initialize-context .ensures in
     let q = c .before .enum-told4 .given .1 in
-    handle-refused (initializeAt (now (a .image)) (a .flags) (a .locality) (now (a .candidates))) (now (a .image)) (now (a .new-handle)) _ _
-    (ap (λ (n : NewHandle). n .answer) m ∙ q)
-    (c .word2 .ensures ∙ ap wordOf q)
-
-write-state-requires : tie.Need-write-state-requires
-write-state-requires c κs = search needs
+    let x : n .answer ≡ Refused _ = ap (λ (y : NewHandle). y .answer) r ∙ sym (ap (λ (y : Chosen). y .answer) (e .0)) ∙ q in
+    (c .word2 .ensures ∙ ap wordOf (q ∙ sym x), (e .1 ∙ sym (ap (λ (y : NewHandle). imageAfter y l) r), kept n (now (a .new-handle)) _ x))
 
 same-length-3 : tie.Need-same-length-3
 same-length-3 c = search needs
 
 returns-3 : tie.Need-returns-3
 returns-3 c =
-    let a = c .before .before .before .before .before .before .before .before .before .before .before .before .before .before .before .before .args in
-    let d = c .before .before .before .before .before .before .before .before .before .before .enum-told .given .1 in
-    let m = read-handle (now (c .before .before .before .before .before .before .before .before .before .before .before .before .before .before .before .before .args .image)) (c .before .before .before .before .before .before .before .before .before .before .before .before .read-state .result) (c .before .before .before .before .before .before .before .before .before .before .before .before .read-state .ensures) d (λ (t : State). initializedOf t (a .flags) (a .locality) (now (a .candidates))) ∙ sym (c .before .before .before .before .before .before .before .before .initialize-context .ensures) in
-    handle-done (initializeAt (now (a .image)) (a .flags) (a .locality) (now (a .candidates))) (now (a .image)) (now (a .new-handle)) _ _
-    (ap (λ (n : NewHandle). n .answer) m ∙ c .before .before .before .before .before .before .enum-told3 .given .1)
-    (c .before .before .write-state .ensures .1 ∙ whole _ (now (a .image)) (was-read (now (c .before .before .before .before .before .before .before .before .before .before .before .before .before .before .before .before .args .image)) (c .before .before .before .before .before .before .before .before .before .before .before .before .read-state .result) (c .before .before .before .before .before .before .before .before .before .before .before .before .read-state .ensures) d .0) ∙ ap (λ (n : NewHandle). encodeState (n .state)) (sym m))
-    (ap (λ (n : NewHandle). n .handle) (sym m))
+    let a = c .before .before .before .before .before .before .before .before .before .before .before .before .before .args in
+    let l = now (a .image) in
+    let n = initializeAt l (a .flags) (a .locality) (now (a .candidates)) in
+    let r = read-handle _ (sym (c .before .before .before .before .before .before .before .before .before .readable .ensures) ∙ c .before .before .before .before .before .before .before .enum-told .given .1) (decodeState l) (initializedOf (decodeState l) (a .flags) (a .locality) (now (a .candidates))) in
+    let e = c .before .before .before .before .before .initialize-context .ensures in
+    let x : n .answer ≡ Done = ap (λ (y : NewHandle). y .answer) r ∙ sym (ap (λ (y : Chosen). y .answer) (e .0)) ∙ c .before .enum-told3 .given .1 in
+    let h = ap (λ (y : Chosen). y .handle) (e .0) ∙ sym (ap (λ (y : NewHandle). y .handle) r) in
+    (sym (ap wordOf x), (e .1 ∙ sym (ap (λ (y : NewHandle). imageAfter y l) r), given n (now (a .new-handle)) _ x h))
 
 pub dpe-initialize-context-spec : {M : Type 1} → statement M
 dpe-initialize-context-spec =
     tie.close
     (tie.spec
-    read-state-requires
+    readable-requires
     enum-told
     enum-told-2
     word-requires
@@ -91,6 +93,5 @@ dpe-initialize-context-spec =
     word-requires-2
     same-length-2
     returns-2
-    write-state-requires
     same-length-3
     returns-3)

@@ -2,18 +2,15 @@
 use mathlib.Core.Path.{sym, ap, _∙_}
 use denote.Ref.{now}
 use Rattle.error.specs.Numbers.{wordOf}
-use Rattle.children.specs.Marks.{slotCount}
-use Rattle.table.specs.declared.state.State.{State}
-use Rattle.table.specs.Context.{slotOf}
-use Rattle.lookup.specs.Lookup.{lookupIn}
+use Rattle.image.proofs.Reading.{readable-size}
 use Rattle.duottarok.specs.Exports.{lookupAt}
 use Rattle.duottarok.proofs.Exports.{unread-found, read-found, found-refused, found-at}
 use borrow.Author.Needs.{needs}
 use Rattle.duottarok.proofs.dpe_lookup.Statement.{statement}
 use Rattle.duottarok.proofs.dpe_lookup.Tie as tie
 
-read-state-requires : tie.Need-read-state-requires
-read-state-requires c κs = search needs
+readable-requires : tie.Need-readable-requires
+readable-requires c κs = search needs
 
 enum-told : tie.Need-enum-told
 enum-told c = search needs
@@ -27,13 +24,10 @@ word-requires c κs = search needs
 returns : tie.Need-returns
 returns c =
     let a = c .before .before .before .before .before .args in
-    let q = c .before .enum-told2 .given .1 in
-    found-refused (lookupAt (now (a .image)) (now (a .handle)) (a .locality)) _ (now (a .slot)) _
-    (unread-found (now (c .before .before .before .before .before .args .image)) (c .before .before .before .read-state .result) (c .before .before .before .read-state .ensures) _ q (λ (t : State). lookupIn slotCount (slotOf (t .contexts)) (now (a .handle)) (a .locality)))
-    (c .word .ensures ∙ ap wordOf q)
+    found-refused (lookupAt (now (a .image)) (now (a .handle)) (a .locality)) _ (now (a .slot)) _ (unread-found _ _ (sym (c .before .before .before .readable .ensures) ∙ c .before .enum-told2 .given .1) _) (c .word .ensures ∙ ap wordOf (c .before .enum-told2 .given .1))
 
 get-active-context-pos-requires : tie.Need-get-active-context-pos-requires
-get-active-context-pos-requires c κs = search needs
+get-active-context-pos-requires c κs = readable-size _ (sym (c .before .before .before .readable .ensures) ∙ c .before .enum-told .given .1)
 
 enum-known-i : tie.Need-enum-known-i
 enum-known-i c = search needs
@@ -49,25 +43,19 @@ refused-requires c κs = search needs
 
 returns-2 : tie.Need-returns-2
 returns-2 c =
-    let a = c .before .before .before .before .before .before .before .before .before .before .before .args in
-    found-at (lookupAt (now (a .image)) (now (a .handle)) (a .locality)) _ (now (a .slot)) _
-    (read-found (now (c .before .before .before .before .before .before .before .before .before .before .before .args .image)) (c .before .before .before .before .before .before .before .before .before .read-state .result) (c .before .before .before .before .before .before .before .before .before .read-state .ensures) (c .before .before .before .before .before .before .before .enum-told .given .1) (λ (t : State). lookupIn slotCount (slotOf (t .contexts)) (now (a .handle)) (a .locality))
-    ∙ sym (c .before .before .before .before .get-active-context-pos .ensures) ∙ c .before .before .i .given .1)
-    (c .wide .ensures)
+    let a = c .before .before .before .before .before .before .before .before .before .before .args in
+    found-at (lookupAt (now (a .image)) (now (a .handle)) (a .locality)) _ (now (a .slot)) _ (read-found _ (sym (c .before .before .before .before .before .before .before .before .readable .ensures) ∙ c .before .before .before .before .before .before .enum-told .given .1) _ ∙ sym (c .before .before .before .before .get-active-context-pos .ensures) ∙ c .before .before .i .given .1) (c .wide .ensures)
 
 returns-3 : tie.Need-returns-3
 returns-3 c =
-    let a = c .before .before .before .before .before .before .before .before .before .before .before .args in
-    found-refused (lookupAt (now (a .image)) (now (a .handle)) (a .locality)) _ (now (a .slot)) _
-    (read-found (now (c .before .before .before .before .before .before .before .before .before .before .before .args .image)) (c .before .before .before .before .before .before .before .before .before .read-state .result) (c .before .before .before .before .before .before .before .before .before .read-state .ensures) (c .before .before .before .before .before .before .before .enum-told .given .1) (λ (t : State). lookupIn slotCount (slotOf (t .contexts)) (now (a .handle)) (a .locality))
-    ∙ sym (c .before .before .before .before .get-active-context-pos .ensures) ∙ c .before .before .e .given .1)
-    (c .refused .ensures)
+    let a = c .before .before .before .before .before .before .before .before .before .before .args in
+    found-refused (lookupAt (now (a .image)) (now (a .handle)) (a .locality)) _ (now (a .slot)) _ (read-found _ (sym (c .before .before .before .before .before .before .before .before .readable .ensures) ∙ c .before .before .before .before .before .before .enum-told .given .1) _ ∙ sym (c .before .before .before .before .get-active-context-pos .ensures) ∙ c .before .before .e .given .1) (c .refused .ensures)
 
 pub dpe-lookup-spec : {M : Type 1} → statement M
 dpe-lookup-spec =
     tie.close
     (tie.spec
-    read-state-requires
+    readable-requires
     enum-told
     enum-told-2
     word-requires

@@ -1,17 +1,26 @@
-//! A stand-in: a vector of at most N elements.
-pub struct ArrayVec<T, const N: usize>(Vec<T>);
-impl<T, const N: usize> ArrayVec<T, N> {
+//! A stand-in: a vector of at most N elements, kept in place as the real one keeps them.
+use core::mem::MaybeUninit;
+
+pub struct ArrayVec<T: Copy, const N: usize> {
+    elements: [MaybeUninit<T>; N],
+    length: u32,
+}
+
+impl<T: Copy, const N: usize> ArrayVec<T, N> {
     pub fn new() -> Self {
-        ArrayVec(Vec::new())
+        ArrayVec {
+            elements: [MaybeUninit::uninit(); N],
+            length: 0,
+        }
     }
     pub fn try_push(&mut self, t: T) -> Result<(), ()> {
-        if self.0.len() >= N {
-            return Err(());
-        }
-        self.0.push(t);
+        self.elements.get_mut(self.length as usize).ok_or(())?.write(t);
+        self.length += 1;
         Ok(())
     }
     pub fn pop(&mut self) -> Option<T> {
-        self.0.pop()
+        self.length = self.length.checked_sub(1)?;
+        // SAFETY: every place below the old length was written when it was pushed.
+        Some(unsafe { self.elements.get_unchecked(self.length as usize).assume_init() })
     }
 }

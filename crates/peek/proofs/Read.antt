@@ -1,0 +1,63 @@
+-- What is read off a slot of the image is what the table says of it. Assumes nothing.
+use mathlib.Core.Path.{_≡_, refl, sym, ap, _∙_}
+use mathlib.Core.List.{List}
+use Prim.Native.Nat.{ℕ, _+_, _*_, _<_}
+use native.Mathlib.Omega.{arith}
+use lib.ListN.{getD}
+use Rattle.children.specs.Marks.{slotCount}
+use Rattle.wire.specs.Le.{part, le}
+use Rattle.wire.proofs.Part.{part-part}
+use Rattle.table.specs.declared.context.Context.{Context}
+use Rattle.table.specs.Context.{slotOf}
+use Rattle.table.specs.Bytes.{handleSize}
+use Rattle.image.specs.Context.{contextSize, decodeContext}
+use Rattle.image.specs.State.{contextsAt, supportAt, slotIn, decodeState}
+use Rattle.image.proofs.Reading.{state-slot}
+use Rattle.view.specs.declared.SlotFields.{SlotFields}
+use Rattle.view.specs.View.{fieldsOf}
+use Rattle.view.proofs.Fields.{state-fields}
+use Rattle.verdict.specs.Tests.{headerOf, contextOf}
+use Rattle.validation.specs.Summary.{linksOn}
+use Rattle.validation.specs.Summary as summary
+
+module _ (l : List ℕ) (i : ℕ) (h : i < slotCount) where
+  pub handle-is : part (contextsAt + contextSize * i + 0) handleSize l ≡ slotOf (decodeState l .contexts) i .handle
+  unfolding decodeContext
+  handle-is =
+      sym (part-part (contextsAt + contextSize * i) contextSize 0 handleSize l (omega arith))
+      ∙ sym (ap (λ (c : Context). c .handle) (state-slot l i h))
+
+  pub children-is : le (part (contextsAt + contextSize * i + 124) 8 l) ≡ slotOf (decodeState l .contexts) i .children
+  unfolding decodeContext
+  children-is =
+      ap le (sym (part-part (contextsAt + contextSize * i) contextSize 124 8 l (omega arith)))
+      ∙ sym (ap (λ (c : Context). c .children) (state-slot l i h))
+
+  -- the fields that were read, as those of the table's slot
+  pub fields-read : (f : SlotFields) → f ≡ fieldsOf (slotIn l i) → f ≡ fieldsOf (slotOf (decodeState l .contexts) i)
+  fields-read f e = e ∙ state-fields l i h
+
+-- ---- the words around the slots
+
+module _ (l : List ℕ) where
+  pub marker-is : le (part 0 4 l) ≡ decodeState l .marker
+  unfolding decodeState
+  marker-is = refl
+
+  pub version-is : le (part 4 4 l) ≡ decodeState l .version
+  unfolding decodeState
+  version-is = refl
+
+  pub support-is : le (part supportAt 4 l) ≡ decodeState l .support
+  unfolding decodeState
+  support-is = refl
+
+  pub initialized-is : getD l (supportAt + 6) 0 ≡ decodeState l .«has_initialized»
+  unfolding decodeState
+  initialized-is = refl
+
+  -- the tests of a slot, with what was read
+  pub slot-tested : (children parents : List ℕ) (live i w : ℕ) (c : Context) → w ≡ le (part supportAt 4 l) → c ≡ slotOf (decodeState l .contexts) i
+      → contextOf slotCount w (getD l (supportAt + 6) 0) c (linksOn children parents live i)
+      ≡ summary.slotIn (headerOf (decodeState l)) (slotOf (decodeState l .contexts)) children parents live i
+  slot-tested children parents live i w c e q = rw (e, q, support-is, initialized-is)

@@ -1,0 +1,41 @@
+// One slot of a lent image.
+use image::context;
+use image::state;
+use table::context::Context;
+use table::context::ContextState;
+use table::handle;
+ghost use mathlib.Core.Path.{_≡_};
+ghost use Prim.Native.Nat.{_<_};
+ghost use lib.ListN.{length};
+ghost use Rattle.children.specs.Marks.{slotCount};
+ghost use Rattle.table.specs.Context.{slotOf};
+ghost use Rattle.image.specs.State.{stateSize, decodeState};
+ghost use Rattle.lookup.specs.Lookup.{activeIn};
+
+// Whether the slot is active, and of the locality.
+pub fn active_in(image: &[u8], slot: usize, locality: u32) -> bool
+    requires { ⌜ (length (now image) ≡ stateSize) × (slot < slotCount) ⌝ }
+    ensures { λ r. ⌜ r ≡ activeIn (slotOf (decodeState (now (image .entry)) .contexts)) locality slot ⌝ }
+{
+    let f = view::fields_at(image, slot);
+    let s = f.state;
+    table::context::same_state(ContextState::Active, s) & (f.locality == locality)
+}
+
+// The handle of the slot.
+pub fn handle_at(image: &[u8], slot: usize) -> [u8; handle::SIZE]
+    requires { ⌜ (length (now image) ≡ stateSize) × (slot < slotCount) ⌝ }
+    ensures { λ r. ⌜ r ≡ slotOf (decodeState (now (image .entry)) .contexts) slot .handle ⌝ }
+{
+    wire::read_16(image, state::CONTEXTS_AT + context::SIZE * slot + context::HANDLE_AT)
+}
+
+// The whole context of the slot.
+pub fn context_at(image: &[u8], slot: usize) -> Context
+    requires { ⌜ (length (now image) ≡ stateSize) × (slot < slotCount) ⌝ }
+    ensures { λ r. ⌜ r ≡ slotOf (decodeState (now (image .entry)) .contexts) slot ⌝ }
+{
+    let a = state::CONTEXTS_AT + context::SIZE * slot;
+    let e = a + context::SIZE;
+    context::read_context(&image[a..e])
+}

@@ -1,0 +1,65 @@
+// Destroy on a lent image. destroy_context.rs.
+use crate::put;
+use children::Answer;
+use children::MAX_HANDLES;
+use error::Outcome;
+use image::context;
+use image::state;
+use peek::find;
+use peek::slot;
+use peek::summary;
+use table::handle;
+use table::state::Found;
+ghost use Prim.Native.Nat.{_<_};
+ghost use mathlib.Core.Path.{_≡_};
+ghost use Rattle.error.specs.declared.Outcome.the-variants.{Done};
+ghost use Rattle.children.specs.Marks.{slotCount};
+ghost use Rattle.table.specs.Context.{slotOf};
+ghost use Rattle.table.specs.State.{withSlot};
+ghost use Rattle.image.specs.State.{decodeState, encodeState, readableOf};
+ghost use Rattle.destroy_context.specs.Destroy.{clearedSlot, clearedBy, destroyOf};
+ghost use Rattle.place.specs.Place.{Holds, destroyedAfter};
+
+// The slot is cleared where the set has it, and else loses the marks of the set.
+fn clear_slot(image: &mut [u8], slot: usize, set: u64)
+    requires { ⌜ (readableOf (now image) ≡ Done) × (slot < slotCount) ⌝ }
+    ensures { λ _. ⌜ Holds (now (image .exit)) (withSlot (decodeState (now (image .entry))) slot (clearedSlot set slot (slotOf (decodeState (now (image .entry)) .contexts) slot))) ⌝ }
+{
+    if children::has_child(set, slot) {
+        let c = slot::context_at(image, slot);
+        put::put_context(image, slot, c.destroy());
+        return;
+    }
+    let at = state::CONTEXTS_AT + context::SIZE * slot + context::CHILDREN_AT;
+    let kids = wire::read_u64(image, at);
+    put::put_children(image, slot, children::remove_children(kids, set));
+}
+
+// Every slot so.
+fn clear(image: &mut [u8], set: u64)
+    requires { ⌜ readableOf (now image) ≡ Done ⌝ }
+    ensures { λ _. ⌜ now (image .exit) ≡ encodeState (clearedBy (decodeState (now (image .entry))) set) ⌝ }
+{
+    for i in 0..MAX_HANDLES {
+        clear_slot(image, i, set);
+    }
+}
+
+// Destroys the active context of a locality that has a handle.
+pub fn destroy_context(image: &mut [u8], handle: [u8; handle::SIZE], locality: u32) -> Outcome
+    requires { ⌜ readableOf (now image) ≡ Done ⌝ }
+    ensures { λ r. ⌜ r ≡ destroyOf (decodeState (now (image .entry))) handle locality .answer ⌝ }
+    ensures { λ _. ⌜ now (image .exit) ≡ destroyedAfter (destroyOf (decodeState (now (image .entry))) handle locality) (now (image .entry)) ⌝ }
+{
+    let found = find::get_active_context_pos(image, handle, locality);
+    let Found::At(slot) = found else {
+        return Outcome::Refused(lookup::why(found));
+    };
+    let l = summary::links_of(image);
+    let gone = destroy_context::doomed(l, slot);
+    let Answer::Marks(set) = gone else {
+        return Outcome::Refused(walks::why(gone));
+    };
+    clear(image, set);
+    Outcome::Done
+}
