@@ -27,7 +27,10 @@ pub fn handle_at(image: &[u8], slot: usize) -> [u8; handle::SIZE]
     requires { ⌜ (length (now image) ≡ stateSize) × (slot < slotCount) ⌝ }
     ensures { λ r. ⌜ r ≡ slotOf (decodeState (now (image .entry)) .contexts) slot .handle ⌝ }
 {
-    wire::read_16(image, state::CONTEXTS_AT + context::SIZE * slot + context::HANDLE_AT)
+    wire::read_16(
+        image,
+        state::CONTEXTS_AT + context::SIZE * slot + context::HANDLE_AT,
+    )
 }
 
 // The whole context of the slot.

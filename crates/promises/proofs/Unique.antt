@@ -52,9 +52,8 @@ use Rattle.table.proofs.u8bool.new.Reads as table-u8bool-new-reads
 use Rattle.links.proofs.links_of.Reads as links-links-of-reads
 use Rattle.walks.proofs.descendants.descend.Reads as walks-descendants-descend-reads
 use Rattle.walks.proofs.descendants.get_descendants.Reads as walks-descendants-get-descendants-reads
+use Rattle.walks.proofs.path.climbed.Reads as walks-path-climbed-reads
 use Rattle.walks.proofs.why.Reads as walks-why-reads
-use Rattle.walks.proofs.path.parent_of.Reads as walks-path-parent-of-reads
-use Rattle.walks.proofs.path.length.Reads as walks-path-length-reads
 use Rattle.walks.proofs.path.root_to_leaf.Reads as walks-path-root-to-leaf-reads
 use Rattle.walks.proofs.run.index.Reads as walks-run-index-reads
 use Rattle.walks.proofs.run.run_above.Reads as walks-run-run-above-reads
@@ -70,7 +69,12 @@ use Rattle.wire.proofs.write_run.Reads as wire-write-run-reads
 use Rattle.lookup.proofs.active_in.Reads as lookup-active-in-reads
 use Rattle.lookup.proofs.get_active_context_pos.Reads as lookup-get-active-context-pos-reads
 use Rattle.lookup.proofs.why.Reads as lookup-why-reads
+use Rattle.candidates.proofs.candidate_at.Reads as candidates-candidate-at-reads
+use Rattle.candidates.proofs.untaken.Reads as candidates-untaken-reads
 use Rattle.candidates.proofs.generate_new_handle.Reads as candidates-generate-new-handle-reads
+use Rattle.initialize_context.proofs.not_supported.Reads as initialize-context-not-supported-reads
+use Rattle.initialize_context.proofs.both_or_neither.Reads as initialize-context-both-or-neither-reads
+use Rattle.initialize_context.proofs.root.Reads as initialize-context-root-reads
 use Rattle.initialize_context.proofs.initialize_context.Reads as initialize-context-initialize-context-reads
 use Rattle.rotate_context.proofs.rotate_context.Reads as rotate-context-rotate-context-reads
 use Rattle.image.proofs.context.state_of.Reads as image-context-state-of-reads
@@ -88,13 +92,30 @@ use Rattle.validation.proofs.validate_dpe.Reads as validation-validate-dpe-read
 use Rattle.validation.proofs.outcome.Reads as validation-outcome-reads
 use Rattle.validation.proofs.localities.places_of.Reads as validation-localities-places-of-reads
 use Rattle.validation.proofs.localities.localities_test.Reads as validation-localities-localities-test-reads
+use Rattle.validation.proofs.slots.context_test.Reads as validation-slots-context-test-reads
 use Rattle.validation.proofs.slots.slots_test.Reads as validation-slots-slots-test-reads
 use Rattle.validation.proofs.trees.trees_test.Reads as validation-trees-trees-test-reads
 use Rattle.destroy_context.proofs.cleared_slot.Reads as destroy-context-cleared-slot-reads
 use Rattle.destroy_context.proofs.cleared.Reads as destroy-context-cleared-reads
+use Rattle.destroy_context.proofs.doomed.Reads as destroy-context-doomed-reads
 use Rattle.destroy_context.proofs.destroy_slot.Reads as destroy-context-destroy-slot-reads
 use Rattle.destroy_context.proofs.destroy_context.Reads as destroy-context-destroy-context-reads
 use Rattle.view.proofs.fields_at.Reads as view-fields-at-reads
+use Rattle.peek.proofs.slot.active_in.Reads as peek-slot-active-in-reads
+use Rattle.peek.proofs.slot.handle_at.Reads as peek-slot-handle-at-reads
+use Rattle.peek.proofs.slot.context_at.Reads as peek-slot-context-at-reads
+use Rattle.peek.proofs.find.get_active_context_pos.Reads as peek-find-get-active-context-pos-reads
+use Rattle.peek.proofs.find.count_contexts.Reads as peek-find-count-contexts-reads
+use Rattle.peek.proofs.find.get_next_inactive_context_pos.Reads as peek-find-get-next-inactive-context-pos-reads
+use Rattle.peek.proofs.choose.generate_new_handle.Reads as peek-choose-generate-new-handle-reads
+use Rattle.peek.proofs.summary.links_of.Reads as peek-summary-links-of-reads
+use Rattle.peek.proofs.summary.places_of.Reads as peek-summary-places-of-reads
+use Rattle.peek.proofs.walk.get_descendants.Reads as peek-walk-get-descendants-reads
+use Rattle.peek.proofs.walk.root_to_leaf.Reads as peek-walk-root-to-leaf-reads
+use Rattle.peek.proofs.validate.validate_dpe.Reads as peek-validate-validate-dpe-reads
+use Rattle.place.proofs.initialize.initialize_context.Reads as place-initialize-initialize-context-reads
+use Rattle.place.proofs.rotate.rotate_context.Reads as place-rotate-rotate-context-reads
+use Rattle.place.proofs.destroy.destroy_context.Reads as place-destroy-destroy-context-reads
 use Rattle.duottarok.proofs.dpe_validate.Reads as dpe-validate-reads
 use Rattle.duottarok.proofs.dpe_lookup.Reads as dpe-lookup-reads
 use Rattle.duottarok.proofs.dpe_initialize_context.Reads as dpe-initialize-context-reads
@@ -263,14 +284,11 @@ walks-descendants-descend κ a r r′ s s′ = one
 pub walks-descendants-get-descendants : OneResult walks-descendants-get-descendants-reads.Post
 walks-descendants-get-descendants κ a r r′ s s′ = one
 
+pub walks-path-climbed : OneResult walks-path-climbed-reads.Post
+walks-path-climbed κ a r r′ s s′ = one
+
 pub walks-why : OneResult walks-why-reads.Post
 walks-why κ a r r′ s s′ = one
-
-pub walks-path-parent-of : OneResult walks-path-parent-of-reads.Post
-walks-path-parent-of κ a r r′ s s′ = one
-
-pub walks-path-length : OneResult walks-path-length-reads.Post
-walks-path-length κ a r r′ s s′ = one
 
 pub walks-path-root-to-leaf : OneResult walks-path-root-to-leaf-reads.Post
 walks-path-root-to-leaf κ a r r′ s s′ = one
@@ -317,8 +335,23 @@ lookup-get-active-context-pos κ a r r′ s s′ = one
 pub lookup-why : OneResult lookup-why-reads.Post
 lookup-why κ a r r′ s s′ = one
 
+pub candidates-candidate-at : OneResult candidates-candidate-at-reads.Post
+candidates-candidate-at κ a r r′ s s′ = one
+
+pub candidates-untaken : OneResult candidates-untaken-reads.Post
+candidates-untaken κ a r r′ s s′ = one
+
 pub candidates-generate-new-handle : OneResult candidates-generate-new-handle-reads.Post
 candidates-generate-new-handle κ a r r′ s s′ = one
+
+pub initialize-context-not-supported : OneResult initialize-context-not-supported-reads.Post
+initialize-context-not-supported κ a r r′ s s′ = one
+
+pub initialize-context-both-or-neither : OneResult initialize-context-both-or-neither-reads.Post
+initialize-context-both-or-neither κ a r r′ s s′ = one
+
+pub initialize-context-root : OneResult initialize-context-root-reads.Post
+initialize-context-root κ a r r′ s s′ = one
 
 pub initialize-context-initialize-context : OneResult initialize-context-initialize-context-reads.Post
 initialize-context-initialize-context κ a r r′ s s′ = one
@@ -365,6 +398,9 @@ validation-localities-places-of κ a r r′ s s′ = one
 pub validation-localities-localities-test : OneResult validation-localities-localities-test-reads.Post
 validation-localities-localities-test κ a r r′ s s′ = one
 
+pub validation-slots-context-test : OneResult validation-slots-context-test-reads.Post
+validation-slots-context-test κ a r r′ s s′ = one
+
 pub validation-slots-slots-test : OneResult validation-slots-slots-test-reads.Post
 validation-slots-slots-test κ a r r′ s s′ = one
 
@@ -377,6 +413,9 @@ destroy-context-cleared-slot κ a r r′ s s′ = one
 pub destroy-context-cleared : OneResult destroy-context-cleared-reads.Post
 destroy-context-cleared κ a r r′ s s′ = one
 
+pub destroy-context-doomed : OneResult destroy-context-doomed-reads.Post
+destroy-context-doomed κ a r r′ s s′ = one
+
 pub destroy-context-destroy-slot : OneResult destroy-context-destroy-slot-reads.Post
 destroy-context-destroy-slot κ a r r′ s s′ = one
 
@@ -385,6 +424,51 @@ destroy-context-destroy-context κ a r r′ s s′ = one
 
 pub view-fields-at : OneResult view-fields-at-reads.Post
 view-fields-at κ a r r′ s s′ = one
+
+pub peek-slot-active-in : OneResult peek-slot-active-in-reads.Post
+peek-slot-active-in κ a r r′ s s′ = one
+
+pub peek-slot-handle-at : OneResult peek-slot-handle-at-reads.Post
+peek-slot-handle-at κ a r r′ s s′ = one
+
+pub peek-slot-context-at : OneResult peek-slot-context-at-reads.Post
+peek-slot-context-at κ a r r′ s s′ = one
+
+pub peek-find-get-active-context-pos : OneResult peek-find-get-active-context-pos-reads.Post
+peek-find-get-active-context-pos κ a r r′ s s′ = one
+
+pub peek-find-count-contexts : OneResult peek-find-count-contexts-reads.Post
+peek-find-count-contexts κ a r r′ s s′ = one
+
+pub peek-find-get-next-inactive-context-pos : OneResult peek-find-get-next-inactive-context-pos-reads.Post
+peek-find-get-next-inactive-context-pos κ a r r′ s s′ = one
+
+pub peek-choose-generate-new-handle : OneResult peek-choose-generate-new-handle-reads.Post
+peek-choose-generate-new-handle κ a r r′ s s′ = one
+
+pub peek-summary-links-of : OneResult peek-summary-links-of-reads.Post
+peek-summary-links-of κ a r r′ s s′ = one
+
+pub peek-summary-places-of : OneResult peek-summary-places-of-reads.Post
+peek-summary-places-of κ a r r′ s s′ = one
+
+pub peek-walk-get-descendants : OneResult peek-walk-get-descendants-reads.Post
+peek-walk-get-descendants κ a r r′ s s′ = one
+
+pub peek-walk-root-to-leaf : OneResult peek-walk-root-to-leaf-reads.Post
+peek-walk-root-to-leaf κ a r r′ s s′ = one
+
+pub peek-validate-validate-dpe : OneResult peek-validate-validate-dpe-reads.Post
+peek-validate-validate-dpe κ a r r′ s s′ = one
+
+pub place-initialize-initialize-context : (κ : _) (a : _) (r r′ : _) (s s′ : _) → place-initialize-initialize-context-reads.Post κ a r s → place-initialize-initialize-context-reads.Post κ a r′ s′ → (r ≡ r′) × (now (s .0) ≡ now (s′ .0))
+place-initialize-initialize-context κ a r r′ s s′ p q = (one (p .0) (q .0), one (p .1) (q .1))
+
+pub place-rotate-rotate-context : (κ : _) (a : _) (r r′ : _) (s s′ : _) → place-rotate-rotate-context-reads.Post κ a r s → place-rotate-rotate-context-reads.Post κ a r′ s′ → (r ≡ r′) × (now (s .0) ≡ now (s′ .0))
+place-rotate-rotate-context κ a r r′ s s′ p q = (one (p .0) (q .0), one (p .1) (q .1))
+
+pub place-destroy-destroy-context : (κ : _) (a : _) (r r′ : _) (s s′ : _) → place-destroy-destroy-context-reads.Post κ a r s → place-destroy-destroy-context-reads.Post κ a r′ s′ → (r ≡ r′) × (now (s .0) ≡ now (s′ .0))
+place-destroy-destroy-context κ a r r′ s s′ p q = (one (p .0) (q .0), one (p .1) (q .1))
 
 pub dpe-validate : OneResult dpe-validate-reads.Post
 dpe-validate κ a r r′ s s′ = one

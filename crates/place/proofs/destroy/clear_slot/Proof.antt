@@ -70,9 +70,11 @@ returns-2 c =
     let l = now (s .args .image) in
     let e = c .before .before .put-children .ensures in
     let clear = seen slotCount _ _ (s .pre .1) (c .before .before .before .before .before .before .before .before .has-child .ensures) (c .before .before .before .before .before .before .before .if1 .left) in
-    let kids = c .before .before .before .remove-children .ensures ∙ ap (λ (m : ℕ). without m (s .args .set)) (c .before .before .before .before .before .read-u64 .ensures ∙ children-is l (s .args .slot) (s .pre .1)) in
-    (e .0, e .1 ∙ ap (λ (m : ℕ). withSlot (decodeState l) (s .args .slot) (withChildren (slotOf (decodeState l .contexts) (s .args .slot)) m)) kids
-    ∙ ap (withSlot (decodeState l) (s .args .slot)) (sym (cleared-out _ _ _ clear)))
+    let kids = c .before .before .before .remove-children .ensures ∙ ap (λ (m : ℕ). without m (s .args .set)) (c .before .before .before .before .before .read-u64 .ensures ∙ children-is l (s .args .slot) (s .pre .1)) in (
+      e .0,
+      e .1 ∙ ap (λ (m : ℕ). withSlot (decodeState l) (s .args .slot) (withChildren (slotOf (decodeState l .contexts) (s .args .slot)) m)) kids
+          ∙ ap (withSlot (decodeState l) (s .args .slot)) (sym (cleared-out _ _ _ clear)),
+    )
 
 pub clear-slot-spec : {M : Type 1} → statement M
 clear-slot-spec =
