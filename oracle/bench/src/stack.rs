@@ -1,4 +1,5 @@
-//! Peak stack of a call: it runs on a painted stack of its own. For x86-64, as the library is.
+//! Peak stack of a call: it runs on a painted stack of its own. The library is for x86-64; a build of it for another machine
+//! can be measured on aarch64 too.
 use crate::{
     calls::{nothing, unwritten, Face, Ours, Side, Theirs},
     cases::Case,
@@ -35,6 +36,7 @@ extern "C" fn run<T>(errand: &mut Errand<T>) {
 #[inline(never)]
 fn run_on<T>(top: *mut u64, errand: &mut Errand<T>) {
     // SAFETY: `top` is the aligned end of memory that nothing else uses, and the old stack pointer comes back.
+    #[cfg(target_arch = "x86_64")]
     unsafe {
         asm!(
             "mov r12, rsp",
@@ -45,6 +47,21 @@ fn run_on<T>(top: *mut u64, errand: &mut Errand<T>) {
             run = in(reg) run::<T> as extern "C" fn(&mut Errand<T>),
             in("rdi") errand,
             out("r12") _,
+            clobber_abi("C"),
+        );
+    }
+    // SAFETY: the same.
+    #[cfg(target_arch = "aarch64")]
+    unsafe {
+        asm!(
+            "mov x20, sp",
+            "mov sp, {top}",
+            "blr {run}",
+            "mov sp, x20",
+            top = in(reg) top,
+            run = in(reg) run::<T> as extern "C" fn(&mut Errand<T>),
+            in("x0") errand,
+            out("x20") _,
             clobber_abi("C"),
         );
     }
