@@ -10,6 +10,7 @@ ghost use lib.ListN.{length};
 ghost use Rattle.children.specs.Marks.{slotCount};
 ghost use Rattle.table.specs.Context.{slotOf};
 ghost use Rattle.image.specs.State.{stateSize, decodeState};
+ghost use Rattle.links.specs.Summary.{liveAt, retiredAt, parentAt, kidsAt};
 ghost use Rattle.lookup.specs.Lookup.{activeIn};
 
 // Whether the slot is active, and of the locality.
@@ -31,6 +32,44 @@ pub fn handle_at(image: &[u8], slot: usize) -> [u8; handle::SIZE]
         image,
         state::CONTEXTS_AT + context::SIZE * slot + context::HANDLE_AT,
     )
+}
+
+// The marks of the slot.
+pub fn children_at(image: &[u8], slot: usize) -> u64
+    requires { ⌜ (length (now image) ≡ stateSize) × (slot < slotCount) ⌝ }
+    ensures { λ r. ⌜ r ≡ kidsAt (slotOf (decodeState (now (image .entry)) .contexts)) slot ⌝ }
+{
+    let f = view::fields_at(image, slot);
+    f.children
+}
+
+// The parent of the slot.
+pub fn parent_at(image: &[u8], slot: usize) -> u8
+    requires { ⌜ (length (now image) ≡ stateSize) × (slot < slotCount) ⌝ }
+    ensures { λ r. ⌜ r ≡ parentAt (slotOf (decodeState (now (image .entry)) .contexts)) slot ⌝ }
+{
+    let f = view::fields_at(image, slot);
+    f.parent_idx
+}
+
+// Whether the slot is not inactive.
+pub fn is_live(image: &[u8], slot: usize) -> bool
+    requires { ⌜ (length (now image) ≡ stateSize) × (slot < slotCount) ⌝ }
+    ensures { λ r. ⌜ r ≡ liveAt (slotOf (decodeState (now (image .entry)) .contexts)) slot ⌝ }
+{
+    let f = view::fields_at(image, slot);
+    let s = f.state;
+    !table::context::is_inactive(s)
+}
+
+// Whether the slot is retired.
+pub fn is_retired(image: &[u8], slot: usize) -> bool
+    requires { ⌜ (length (now image) ≡ stateSize) × (slot < slotCount) ⌝ }
+    ensures { λ r. ⌜ r ≡ retiredAt (slotOf (decodeState (now (image .entry)) .contexts)) slot ⌝ }
+{
+    let f = view::fields_at(image, slot);
+    let s = f.state;
+    table::context::is_retired(s)
 }
 
 // The whole context of the slot.
