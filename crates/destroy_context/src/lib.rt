@@ -59,7 +59,7 @@ pub fn cleared(t: State, set: u64) -> State
 }
 
 // The slots that go with a slot, as marks: itself, all that is below it, and the run above it. The walk up comes first.
-pub fn doomed(l: Links, slot: usize) -> Answer
+fn doomed(l: Links, slot: usize) -> Answer
     ensures { λ r. ⌜ r ≡ doomedOf slotCount (marked (l .live)) (marked (l .retired)) (numberIn (l .parents)) (numberIn (l .children)) slot ⌝ }
 {
     if slot >= MAX_HANDLES {

@@ -3,11 +3,11 @@ use children::Answer;
 use children::MAX_HANDLES;
 use error::DpeErrorCode;
 use error::Outcome;
-use image::context;
 use image::state;
+use peek::down;
 use peek::find;
+use peek::path;
 use peek::validate;
-use peek::walk;
 use place::destroy;
 use place::initialize;
 use place::rotate;
@@ -36,10 +36,9 @@ fn refused(e: DpeErrorCode) -> u64
 pub extern "C" fn dpe_validate(image: &[u8]) -> u64
     ensures { λ r. ⌜ r ≡ wordOf (validateAt (now (image .entry))) ⌝ }
 {
-    let answer = state::readable(image);
-    let Outcome::Done = answer else {
-        return error::word(answer);
-    };
+    if !state::is_readable(image) {
+        return error::word(state::readable(image));
+    }
     error::word(validation::outcome(validate::validate_dpe(image)))
 }
 
@@ -54,10 +53,9 @@ pub extern "C" fn dpe_lookup(
     ensures { λ r. ⌜ r ≡ foundWord (lookupAt (now (image .entry)) (now (handle .entry)) locality) ⌝ }
     ensures { λ _. ⌜ now (slot .exit) ≡ foundPlace (lookupAt (now (image .entry)) (now (handle .entry)) locality) (now (slot .entry)) ⌝ }
 {
-    let answer = state::readable(image);
-    let Outcome::Done = answer else {
-        return error::word(answer);
-    };
+    if !state::is_readable(image) {
+        return error::word(state::readable(image));
+    }
     match find::get_active_context_pos(image, *handle, locality) {
         Found::At(i) => {
             *slot = wide(i);
@@ -80,10 +78,9 @@ pub extern "C" fn dpe_initialize_context(
     ensures { λ _. ⌜ now (image .exit) ≡ imageAfter (initializeAt (now (image .entry)) flags locality (now (candidates .entry))) (now (image .entry)) ⌝ }
     ensures { λ _. ⌜ now («new_handle» .exit) ≡ handlePlace (initializeAt (now (image .entry)) flags locality (now (candidates .entry))) (now («new_handle» .entry)) ⌝ }
 {
-    let answer = state::readable(image);
-    let Outcome::Done = answer else {
-        return error::word(answer);
-    };
+    if !state::is_readable(image) {
+        return error::word(state::readable(image));
+    }
     let made = initialize::initialize_context(image, flags, locality, candidates);
     let ended = made.answer;
     let Outcome::Done = ended else {
@@ -108,10 +105,9 @@ pub extern "C" fn dpe_rotate_context(
     ensures { λ _. ⌜ now (image .exit) ≡ imageAfter (rotateAt (now (image .entry)) (now (handle .entry)) locality flags (now (candidates .entry))) (now (image .entry)) ⌝ }
     ensures { λ _. ⌜ now («new_handle» .exit) ≡ handlePlace (rotateAt (now (image .entry)) (now (handle .entry)) locality flags (now (candidates .entry))) (now («new_handle» .entry)) ⌝ }
 {
-    let answer = state::readable(image);
-    let Outcome::Done = answer else {
-        return error::word(answer);
-    };
+    if !state::is_readable(image) {
+        return error::word(state::readable(image));
+    }
     let made = rotate::rotate_context(image, *handle, locality, flags, candidates);
     let ended = made.answer;
     let Outcome::Done = ended else {
@@ -132,10 +128,9 @@ pub extern "C" fn dpe_destroy_context(
     ensures { λ r. ⌜ r ≡ wordOf (destroyAt (now (image .entry)) (now (handle .entry)) locality .answer) ⌝ }
     ensures { λ _. ⌜ now (image .exit) ≡ destroyedAfter (destroyAt (now (image .entry)) (now (handle .entry)) locality) (now (image .entry)) ⌝ }
 {
-    let answer = state::readable(image);
-    let Outcome::Done = answer else {
-        return error::word(answer);
-    };
+    if !state::is_readable(image) {
+        return error::word(state::readable(image));
+    }
     error::word(destroy::destroy_context(image, *handle, locality))
 }
 
@@ -145,11 +140,10 @@ pub extern "C" fn dpe_descendants(image: &[u8], slot: usize, marks: &mut u64) ->
     ensures { λ r. ⌜ r ≡ marksWord (descendantsAt (now (image .entry)) slot) ⌝ }
     ensures { λ _. ⌜ now (marks .exit) ≡ marksPlace (descendantsAt (now (image .entry)) slot) (now (marks .entry)) ⌝ }
 {
-    let answer = state::readable(image);
-    let Outcome::Done = answer else {
-        return error::word(answer);
-    };
-    match walk::get_descendants(image, slot) {
+    if !state::is_readable(image) {
+        return error::word(state::readable(image));
+    }
+    match down::get_descendants(image, slot) {
         Answer::Marks(m) => {
             *marks = m;
             0
@@ -170,11 +164,10 @@ pub extern "C" fn dpe_path(
     ensures { λ _. ⌜ now (slots .exit) ≡ slotsPlace (lengthAt (now (image .entry)) slot) (pathAt (now (image .entry)) slot .slots) (now (slots .entry)) ⌝ }
     ensures { λ _. ⌜ now (length .exit) ≡ foundPlace (lengthAt (now (image .entry)) slot) (now (length .entry)) ⌝ }
 {
-    let answer = state::readable(image);
-    let Outcome::Done = answer else {
-        return error::word(answer);
-    };
-    let found = walk::root_to_leaf(image, slot);
+    if !state::is_readable(image) {
+        return error::word(state::readable(image));
+    }
+    let found = path::root_to_leaf(image, slot);
     let k = found.length;
     match k {
         Found::At(n) => {
@@ -193,13 +186,12 @@ pub extern "C" fn dpe_count(image: &[u8], state: u8, count: &mut u64) -> u64
     ensures { λ r. ⌜ r ≡ foundWord (countAt (now (image .entry)) state) ⌝ }
     ensures { λ _. ⌜ now (count .exit) ≡ foundPlace (countAt (now (image .entry)) state) (now (count .entry)) ⌝ }
 {
-    let answer = state::readable(image);
-    let Outcome::Done = answer else {
-        return error::word(answer);
-    };
+    if !state::is_readable(image) {
+        return error::word(state::readable(image));
+    }
     if state >= 3 {
         return refused(DpeErrorCode::InvalidArgument);
     }
-    *count = wide(find::count_contexts(image, context::state_of(state)));
+    *count = wide(find::count_contexts(image, state));
     0
 }

@@ -1,21 +1,24 @@
 -- Laws of one context's bytes. Assumes nothing.
 use mathlib.Core.Path.{_≡_, refl, sym, ap, ap₂, _∙_}
-use mathlib.Core.Bool.{Bool, true, false, cond}
+use mathlib.Core.Bool.{Bool, true, false, cond, _&&_}
 use mathlib.Core.List.{List}
 use Prim.Native.Nat.{ℕ, zero, suc, _+_, _<_}
 use native.Mathlib.Omega.{arith}
 use borrow.Author.Tests.{ltb-true, lt-ltb}
+use lib.Dec.{eqb, ltb}
 use lib.ListN.{getD}
 use Rattle.error.specs.declared.Outcome.{Outcome}
 use Rattle.error.specs.declared.Outcome.the-variants.{Done, Refused}
 use Rattle.error.specs.declared.DpeErrorCode.{DpeErrorCode}
+use Rattle.children.proofs.Cases.{and-true, and-both}
 use Rattle.wire.specs.Le.{part}
 use Rattle.wire.proofs.Part.{getD-part}
 use Rattle.table.specs.declared.context.ContextState.{ContextState}
 use Rattle.table.specs.declared.context.ContextState.the-variants.{Inactive, Active, Retired}
+use Rattle.table.specs.Context.{sameState}
 use Rattle.table.specs.declared.context.ContextType.{ContextType}
 use Rattle.table.specs.declared.context.ContextType.the-variants.{Normal, Simulation}
-use Rattle.image.specs.Context.{contextSize, stateOf, stateByte, typeOf, typeByte, stateByteIn, typeByteIn, stateAnswer, typeAnswer, first, contextAnswer}
+use Rattle.image.specs.Context.{contextSize, stateOf, stateByte, typeOf, typeByte, stateByteIn, typeByteIn, stateAnswer, typeAnswer, first, contextAnswer, isGood}
 
 -- ---- the bytes of a type and of a state
 
@@ -42,6 +45,23 @@ state-byte zero h = refl
 state-byte (suc zero) h = refl
 state-byte (suc (suc zero)) h = refl
 state-byte (suc (suc (suc b))) h = absurd (omega arith)
+
+-- two bytes that are states say the same one just where they are equal
+pub same-byte : (a b : ℕ) → a < 3 → b < 3 → sameState (stateOf a) (stateOf b) ≡ eqb b a
+unfolding stateOf
+same-byte zero zero h k = refl
+same-byte zero (suc zero) h k = refl
+same-byte zero (suc (suc zero)) h k = refl
+same-byte zero (suc (suc (suc b))) h k = absurd (omega arith)
+same-byte (suc zero) zero h k = refl
+same-byte (suc zero) (suc zero) h k = refl
+same-byte (suc zero) (suc (suc zero)) h k = refl
+same-byte (suc zero) (suc (suc (suc b))) h k = absurd (omega arith)
+same-byte (suc (suc zero)) zero h k = refl
+same-byte (suc (suc zero)) (suc zero) h k = refl
+same-byte (suc (suc zero)) (suc (suc zero)) h k = refl
+same-byte (suc (suc zero)) (suc (suc (suc b))) h k = absurd (omega arith)
+same-byte (suc (suc (suc a))) b h k = absurd (omega arith)
 
 pub byte-type : (t : ContextType) → (typeOf (typeByte t) ≡ t) × (typeByte t < 2)
 unfolding typeOf
@@ -76,9 +96,23 @@ module _ (l : List ℕ) where
   unfolding contextAnswer
   bytes-done s t = rw (lt-ltb _ _ s, lt-ltb _ _ t)
 
+  pub done-good : contextAnswer l ≡ Done → isGood l ≡ true
+  unfolding isGood
+  done-good h = let w = done-bytes h in and-both (lt-ltb _ _ (w .0)) (lt-ltb _ _ (w .1))
+
+  -- a good context is read
+  pub good-done : isGood l ≡ true → contextAnswer l ≡ Done
+  unfolding isGood
+  good-done h = let w = and-true _ _ h in bytes-done (ltb-true _ _ (w .0)) (ltb-true _ _ (w .1))
+
 -- the same, by the bytes of a longer list
 pub answer-is : (l : List ℕ) (at : ℕ) {a b r : Outcome} → a ≡ stateAnswer (getD l (at + 138) 0) → b ≡ typeAnswer (getD l (at + 137) 0) → r ≡ first a b
     → r ≡ contextAnswer (part at contextSize l)
 unfolding contextAnswer
 answer-is l at p q e =
     e ∙ ap₂ first (p ∙ ap stateAnswer (sym (getD-part at contextSize 138 l (omega arith)))) (q ∙ ap typeAnswer (sym (getD-part at contextSize 137 l (omega arith))))
+
+pub good-is : (l : List ℕ) (at : ℕ) {r : Bool} → r ≡ (ltb (getD l (at + 138) 0) 3 && ltb (getD l (at + 137) 0) 2) → r ≡ isGood (part at contextSize l)
+unfolding isGood
+good-is l at e =
+    e ∙ ap₂ (λ (a b : ℕ). ltb a 3 && ltb b 2) (sym (getD-part at contextSize 138 l (omega arith))) (sym (getD-part at contextSize 137 l (omega arith)))

@@ -13,16 +13,18 @@ use Rattle.error.specs.declared.Outcome.the-variants.{Done, Refused}
 use Rattle.error.specs.declared.DpeErrorCode.{DpeErrorCode}
 use Rattle.error.specs.declared.DpeErrorCode.the-variants.{Added}
 use Rattle.error.specs.declared.AddedErrorCode.the-variants.{BadLength}
-use Rattle.children.specs.Below.{listOf}
+use mathlib.Core.Bool.{true, false}
+use Rattle.children.proofs.Cases.{clash, and-true, and-both, eqb-true}
+use Rattle.children.specs.Below.{every, listOf}
 use Rattle.children.specs.Marks.{slotCount}
-use Rattle.children.proofs.Below.{listOf-at}
+use Rattle.children.proofs.Below.{every-at, at-every, listOf-at}
 use Rattle.wire.specs.Le.{part, le}
 use Rattle.table.specs.declared.context.Context.{Context}
 use Rattle.table.specs.declared.state.State.{State}
 use Rattle.table.specs.Context.{slotOf, noContext}
 use Rattle.image.specs.Context.{contextAnswer, blankContext}
-use Rattle.image.proofs.Fields.{first-done}
-use Rattle.image.specs.State.{supportAt, stateSize, slotBytes, slotIn, decodeState, slotsAnswer, readableOf, blankState, stateBeside, readState}
+use Rattle.image.proofs.Fields.{first-done, good-done, done-good}
+use Rattle.image.specs.State.{supportAt, stateSize, slotBytes, slotIn, decodeState, slotsAnswer, readableOf, goodSlot, isReadable, blankState, stateBeside, readState}
 
 -- ---- the sizes and offsets that document 01 names
 
@@ -92,6 +94,35 @@ module _ (l : List ℕ) where
 
   pub good-readable : length l ≡ stateSize → ((i : ℕ) → i < slotCount → contextAnswer (slotBytes l i) ≡ Done) → readableOf l ≡ Done
   good-readable n f = sym (read-slots n) ∙ good-slots slotCount f
+
+-- ---- whether it reads, in one pass
+
+module _ (l : List ℕ) where
+  pub is-short : (length l ≡ stateSize → ⊥) → false ≡ isReadable l
+  unfolding isReadable
+  is-short h = rw (ne-eqb _ _ h)
+
+  pub is-whole : length l ≡ stateSize → every (goodSlot l) slotCount ≡ isReadable l
+  unfolding isReadable
+  is-whole h = rw (eq-eqb _ _ h)
+
+  pub readable-done : isReadable l ≡ true → readableOf l ≡ Done
+  unfolding isReadable
+  readable-done e =
+      let w = and-true _ _ e in
+      good-readable l (eqb-true _ _ (w .0)) (λ i h. good-done (slotBytes l i) (every-at (goodSlot l) slotCount (w .1) i h))
+
+  done-readable : readableOf l ≡ Done → isReadable l ≡ true
+  unfolding isReadable
+  done-readable p = and-both (eq-eqb _ _ (readable-size l p)) (at-every (goodSlot l) slotCount (λ i h. done-good (slotBytes l i) (readable-good l p i h)))
+
+  by-answer : (o : Outcome) → readableOf l ≡ o → isReadable l ≡ false → (x : DpeErrorCode) × (readableOf l ≡ Refused x)
+  by-answer Done p e = clash (done-readable p) e
+  by-answer (Refused x) p e = (x, p)
+
+  -- where it does not, a refusal says why
+  pub not-readable : isReadable l ≡ false → (x : DpeErrorCode) × (readableOf l ≡ Refused x)
+  not-readable = by-answer (readableOf l) refl
 
 -- ---- what reading gives
 

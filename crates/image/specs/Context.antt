@@ -1,6 +1,6 @@
 -- One context of the state image, from document 01's offsets. Assumes nothing: these are definitions.
 use Prim.Native.Nat.{ℕ, zero, suc}
-use mathlib.Core.Bool.{cond}
+use mathlib.Core.Bool.{Bool, cond, _&&_}
 use mathlib.Core.List.{List, [], _∷_, _++_}
 use lib.ListN.{getD, replicate}
 use lib.Dec.{ltb}
@@ -95,6 +95,10 @@ first (Refused e) b = Refused e
 -- what reading a context answers: the state byte is tested, and then the type byte
 unfoldable pub contextAnswer : List ℕ → Outcome
 contextAnswer l = first (stateAnswer (stateByteIn l)) (typeAnswer (typeByteIn l))
+
+-- both bytes are in range
+unfoldable pub isGood : List ℕ → Bool
+isGood l = ltb (stateByteIn l) 3 && ltb (typeByteIn l) 2
 
 -- ---- written: field after field
 

@@ -1,7 +1,7 @@
 -- The state image, from document 01's offsets; those behind the contexts follow from the number of slots, and `proofs/Reading.antt` shows that they
 -- are document 01's numbers. Assumes nothing: these are definitions.
 use Prim.Native.Nat.{ℕ, zero, suc, _+_, _*_}
-use mathlib.Core.Bool.{cond}
+use mathlib.Core.Bool.{Bool, cond, _&&_}
 use mathlib.Core.List.{List, [], _∷_, _++_}
 use lib.ListN.{length, getD, replicate}
 use lib.Dec.{eqb}
@@ -9,12 +9,12 @@ use Rattle.error.specs.declared.Outcome.{Outcome}
 use Rattle.error.specs.declared.Outcome.the-variants.{Done, Refused}
 use Rattle.error.specs.declared.DpeErrorCode.the-variants.{Added}
 use Rattle.error.specs.declared.AddedErrorCode.the-variants.{BadLength}
-use Rattle.children.specs.Below.{listOf}
+use Rattle.children.specs.Below.{every, listOf}
 use Rattle.children.specs.Marks.{slotCount}
 use Rattle.wire.specs.Le.{part, le, leBytes}
 use Rattle.table.specs.declared.context.Context.{Context}
 use Rattle.table.specs.declared.state.State.{State}
-use Rattle.image.specs.Context.{contextSize, decodeContext, first, contextAnswer, encodeContext}
+use Rattle.image.specs.Context.{contextSize, decodeContext, first, contextAnswer, isGood, encodeContext}
 use Rattle.image.specs.declared.state.StateRead.{StateRead}
 
 -- where the contexts start
@@ -63,6 +63,14 @@ slotsAnswer (suc n) l = first (slotsAnswer n l) (contextAnswer (slotBytes l n))
 -- what reading an image answers
 unfoldable pub readableOf : List ℕ → Outcome
 readableOf l = ifWhole l (slotsAnswer slotCount l)
+
+-- slot i is good
+abbrev pub goodSlot : List ℕ → ℕ → Bool
+goodSlot l i = isGood (slotBytes l i)
+
+-- an image reads: it is as long as one, and every slot is good
+unfoldable pub isReadable : List ℕ → Bool
+isReadable l = eqb (length l) stateSize && every (goodSlot l) slotCount
 
 -- the table of all zero bytes, which stands beside a refusal
 unfoldable pub blankState : State

@@ -10,7 +10,7 @@ ghost use mathlib.Core.Path.{_≡_};
 ghost use Prim.Native.Nat.{_+_, _≤_};
 ghost use lib.ListN.{length};
 ghost use Rattle.wire.specs.Le.{part, put};
-ghost use Rattle.image.specs.Context.{contextSize, stateOf, stateByte, typeOf, typeByte, decodeTci, decodeContext, blankContext, stateAnswer, typeAnswer, first, contextAnswer, encodeTci, encodeLast, encodeContext};
+ghost use Rattle.image.specs.Context.{contextSize, stateOf, stateByte, typeOf, typeByte, decodeTci, decodeContext, blankContext, stateAnswer, typeAnswer, first, contextAnswer, isGood, encodeTci, encodeLast, encodeContext};
 
 pub const SIZE: usize = 144;
 
@@ -191,6 +191,14 @@ pub fn answer_at(image: &[u8], at: usize) -> Outcome
     let s = state_answer(image[at + STATE_AT]);
     let t = type_answer(image[at + CONTEXT_TYPE_AT]);
     first_of(s, t)
+}
+
+// Whether the state and the type byte of the context at `at` each say one.
+pub fn is_good_at(image: &[u8], at: usize) -> bool
+    requires { ⌜ at + contextSize ≤ length (now image) ⌝ }
+    ensures { λ r. ⌜ r ≡ isGood (part at contextSize (now (image .entry))) ⌝ }
+{
+    (image[at + STATE_AT] < 3) & (image[at + CONTEXT_TYPE_AT] < 2)
 }
 
 // The measurements into their place in a context.

@@ -8,10 +8,10 @@ use table::context::Context;
 use table::state::State;
 ghost use mathlib.Core.Path.{_≡_};
 ghost use lib.ListN.{length};
-ghost use Rattle.children.specs.Below.{listOf};
+ghost use Rattle.children.specs.Below.{every, listOf};
 ghost use Rattle.children.specs.Marks.{slotCount};
 ghost use Rattle.wire.specs.Le.{put};
-ghost use Rattle.image.specs.State.{contextsAt, stateSize, slotIn, decodeState, blankState, readableOf, readState, encodeSlots, writeAnswer, written};
+ghost use Rattle.image.specs.State.{contextsAt, stateSize, slotIn, decodeState, blankState, goodSlot, isReadable, readableOf, readState, encodeSlots, writeAnswer, written};
 
 // Where the fields of a state lie in it; the contexts stand one after the other, and four more fields follow them.
 pub const MARKER_AT: usize = 0;
@@ -34,6 +34,28 @@ pub const SIZE: usize = SUPPORT_AT + 8;
 pub struct StateRead {
     pub answer: Outcome,
     pub state: State,
+}
+
+// Whether every slot is good. All are looked at, in one pass with no branch.
+fn are_good(image: &[u8]) -> bool
+    requires { ⌜ length (now image) ≡ stateSize ⌝ }
+    ensures { λ r. ⌜ r ≡ every (goodSlot (now (image .entry))) slotCount ⌝ }
+{
+    let mut good = true;
+    for slot in 0..MAX_HANDLES {
+        good = good & context::is_good_at(image, CONTEXTS_AT + context::SIZE * slot);
+    }
+    good
+}
+
+// Whether the image reads. `readable` says why one does not.
+pub fn is_readable(image: &[u8]) -> bool
+    ensures { λ r. ⌜ r ≡ isReadable (now (image .entry)) ⌝ }
+{
+    if image.len() != SIZE {
+        return false;
+    }
+    are_good(image)
 }
 
 // What reading the image answers; nothing is built.

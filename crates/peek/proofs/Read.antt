@@ -3,16 +3,20 @@ use mathlib.Core.Path.{_≡_, refl, sym, ap, _∙_}
 use mathlib.Core.List.{List}
 use Prim.Native.Nat.{ℕ, _+_, _*_, _<_}
 use native.Mathlib.Omega.{arith}
+use lib.Dec.{eqb}
 use lib.ListN.{getD}
+use Rattle.error.specs.declared.Outcome.the-variants.{Done}
 use Rattle.children.specs.Marks.{slotCount}
 use Rattle.wire.specs.Le.{part, le}
-use Rattle.wire.proofs.Part.{part-part}
+use Rattle.wire.proofs.Part.{part-part, getD-part}
 use Rattle.table.specs.declared.context.Context.{Context}
-use Rattle.table.specs.Context.{slotOf}
+use Rattle.table.specs.Context.{slotOf, sameState}
+use Rattle.table.specs.State.{inState}
 use Rattle.table.specs.Bytes.{handleSize}
-use Rattle.image.specs.Context.{contextSize, decodeContext}
-use Rattle.image.specs.State.{contextsAt, supportAt, slotIn, decodeState}
-use Rattle.image.proofs.Reading.{state-slot}
+use Rattle.image.specs.Context.{contextSize, stateOf, stateByteIn, decodeContext}
+use Rattle.image.specs.State.{contextsAt, supportAt, slotBytes, slotIn, decodeState, readableOf}
+use Rattle.image.proofs.Reading.{state-slot, readable-good}
+use Rattle.image.proofs.Fields.{same-byte, done-bytes}
 use Rattle.view.specs.declared.SlotFields.{SlotFields}
 use Rattle.view.specs.View.{fieldsOf}
 use Rattle.view.proofs.Fields.{state-fields}
@@ -32,6 +36,15 @@ module _ (l : List ℕ) (i : ℕ) (h : i < slotCount) where
   children-is =
       ap le (sym (part-part (contextsAt + contextSize * i) contextSize 124 8 l (omega arith)))
       ∙ sym (ap (λ (c : Context). c .children) (state-slot l i h))
+
+  -- the slot is in the state that b says just where b is its state byte
+  pub in-state : readableOf l ≡ Done → (b : ℕ) → b < 3 → inState (slotOf (decodeState l .contexts)) (stateOf b) i ≡ eqb (getD l (contextsAt + contextSize * i + 138) 0) b
+  unfolding decodeContext
+  in-state r b k =
+      let e = getD-part (contextsAt + contextSize * i) contextSize 138 l (omega arith) in
+      ap (λ (c : Context). sameState (stateOf b) (c .state)) (state-slot l i h)
+      ∙ same-byte b (stateByteIn (slotBytes l i)) k (done-bytes (slotBytes l i) (readable-good l r i h) .0)
+      ∙ ap (λ (x : ℕ). eqb x b) e
 
   -- the fields that were read, as those of the table's slot
   pub fields-read : (f : SlotFields) → f ≡ fieldsOf (slotIn l i) → f ≡ fieldsOf (slotOf (decodeState l .contexts) i)

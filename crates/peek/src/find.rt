@@ -2,16 +2,21 @@
 use crate::slot;
 use children::MAX_HANDLES;
 use error::DpeErrorCode;
+use image::context::SIZE;
+use image::context::STATE_AT;
+use image::state::CONTEXTS_AT;
 use table::context;
-use table::context::ContextState;
 use table::handle;
 use table::state::Found;
 ghost use mathlib.Core.Path.{_≡_};
+ghost use Prim.Native.Nat.{_<_};
 ghost use lib.ListN.{length};
+ghost use Rattle.error.specs.declared.Outcome.the-variants.{Done};
 ghost use Rattle.children.specs.Marks.{slotCount};
 ghost use Rattle.table.specs.Context.{slotOf};
 ghost use Rattle.table.specs.State.{countIn, freeIn};
-ghost use Rattle.image.specs.State.{stateSize, decodeState};
+ghost use Rattle.image.specs.Context.{stateOf};
+ghost use Rattle.image.specs.State.{stateSize, decodeState, readableOf};
 ghost use Rattle.lookup.specs.Lookup.{lookupIn};
 
 // The lowest active slot of the locality with the handle.
@@ -35,16 +40,14 @@ pub fn get_active_context_pos(image: &[u8], handle: [u8; handle::SIZE], locality
     Found::Refused(DpeErrorCode::InvalidLocality)
 }
 
-// How many contexts are in a state.
-pub fn count_contexts(image: &[u8], state: ContextState) -> usize
-    requires { ⌜ length (now image) ≡ stateSize ⌝ }
-    ensures { λ r. ⌜ r ≡ countIn slotCount (slotOf (decodeState (now (image .entry)) .contexts)) state ⌝ }
+// How many contexts are in a state, given as its byte.
+pub fn count_contexts(image: &[u8], state: u8) -> usize
+    requires { ⌜ (readableOf (now image) ≡ Done) × (state < 3) ⌝ }
+    ensures { λ r. ⌜ r ≡ countIn slotCount (slotOf (decodeState (now (image .entry)) .contexts)) (stateOf state) ⌝ }
 {
     let mut found: usize = 0;
     for i in 0..MAX_HANDLES {
-        let f = view::fields_at(image, i);
-        let s = f.state;
-        if context::same_state(state, s) {
+        if image[CONTEXTS_AT + SIZE * i + STATE_AT] == state {
             found += 1;
         }
     }

@@ -5,19 +5,21 @@ use children::MAX_HANDLES;
 use error::Outcome;
 use image::context;
 use image::state;
+use peek::down;
 use peek::find;
 use peek::slot;
-use peek::summary;
+use peek::up;
 use table::handle;
 use table::state::Found;
 ghost use Prim.Native.Nat.{_<_};
 ghost use mathlib.Core.Path.{_≡_};
+ghost use lib.ListN.{length};
 ghost use Rattle.error.specs.declared.Outcome.the-variants.{Done};
 ghost use Rattle.children.specs.Marks.{slotCount};
 ghost use Rattle.table.specs.Context.{slotOf};
 ghost use Rattle.table.specs.State.{withSlot};
-ghost use Rattle.image.specs.State.{decodeState, encodeState, readableOf};
-ghost use Rattle.destroy_context.specs.Destroy.{clearedSlot, clearedBy, destroyOf};
+ghost use Rattle.image.specs.State.{stateSize, decodeState, encodeState, readableOf};
+ghost use Rattle.destroy_context.specs.Destroy.{clearedSlot, clearedBy, doomedIn, destroyOf};
 ghost use Rattle.place.specs.Place.{Holds, destroyedAfter};
 
 // The slot is cleared where the set has it, and else loses the marks of the set.
@@ -45,6 +47,23 @@ fn clear(image: &mut [u8], set: u64)
     }
 }
 
+// The slots that go with a slot, as marks: itself, all that is below it, and the run above it. The walk up comes first.
+fn doomed(image: &[u8], slot: usize) -> Answer
+    requires { ⌜ (length (now image) ≡ stateSize) × (slot < slotCount) ⌝ }
+    ensures { λ r. ⌜ r ≡ doomedIn slotCount (slotOf (decodeState (now (image .entry)) .contexts)) slot ⌝ }
+{
+    let above = up::run_above(image, slot::parent_at(image, slot));
+    let Answer::Marks(retired) = above else {
+        return above;
+    };
+    let below = down::descend(image, children::empty(), slot, MAX_HANDLES);
+    let Answer::Marks(under) = below else {
+        return below;
+    };
+    let set = children::add_children(children::with(under, slot), retired);
+    Answer::Marks(set)
+}
+
 // Destroys the active context of a locality that has a handle.
 pub fn destroy_context(image: &mut [u8], handle: [u8; handle::SIZE], locality: u32) -> Outcome
     requires { ⌜ readableOf (now image) ≡ Done ⌝ }
@@ -55,8 +74,7 @@ pub fn destroy_context(image: &mut [u8], handle: [u8; handle::SIZE], locality: u
     let Found::At(slot) = found else {
         return Outcome::Refused(lookup::why(found));
     };
-    let l = summary::links_of(image);
-    let gone = destroy_context::doomed(l, slot);
+    let gone = doomed(image, slot);
     let Answer::Marks(set) = gone else {
         return Outcome::Refused(walks::why(gone));
     };

@@ -52,7 +52,7 @@ use Rattle.table.proofs.u8bool.new.Reads as table-u8bool-new-reads
 use Rattle.links.proofs.links_of.Reads as links-links-of-reads
 use Rattle.walks.proofs.descendants.descend.Reads as walks-descendants-descend-reads
 use Rattle.walks.proofs.descendants.get_descendants.Reads as walks-descendants-get-descendants-reads
-use Rattle.walks.proofs.path.climbed.Reads as walks-path-climbed-reads
+use Rattle.walks.proofs.path.byte.Reads as walks-path-byte-reads
 use Rattle.walks.proofs.why.Reads as walks-why-reads
 use Rattle.walks.proofs.path.root_to_leaf.Reads as walks-path-root-to-leaf-reads
 use Rattle.walks.proofs.run.index.Reads as walks-run-index-reads
@@ -82,6 +82,7 @@ use Rattle.image.proofs.context.type_of.Reads as image-context-type-of-reads
 use Rattle.image.proofs.context.read_context.Reads as image-context-read-context-reads
 use Rattle.image.proofs.context.blank.Reads as image-context-blank-reads
 use Rattle.image.proofs.context.answer_at.Reads as image-context-answer-at-reads
+use Rattle.image.proofs.context.is_good_at.Reads as image-context-is-good-at-reads
 use Rattle.image.proofs.context.write_context.Reads as image-context-write-context-reads
 use Rattle.image.proofs.context.state_byte.Reads as image-context-state-byte-reads
 use Rattle.image.proofs.context.type_byte.Reads as image-context-type-byte-reads
@@ -97,12 +98,15 @@ use Rattle.validation.proofs.slots.slots_test.Reads as validation-slots-slots-t
 use Rattle.validation.proofs.trees.trees_test.Reads as validation-trees-trees-test-reads
 use Rattle.destroy_context.proofs.cleared_slot.Reads as destroy-context-cleared-slot-reads
 use Rattle.destroy_context.proofs.cleared.Reads as destroy-context-cleared-reads
-use Rattle.destroy_context.proofs.doomed.Reads as destroy-context-doomed-reads
 use Rattle.destroy_context.proofs.destroy_slot.Reads as destroy-context-destroy-slot-reads
 use Rattle.destroy_context.proofs.destroy_context.Reads as destroy-context-destroy-context-reads
 use Rattle.view.proofs.fields_at.Reads as view-fields-at-reads
 use Rattle.peek.proofs.slot.active_in.Reads as peek-slot-active-in-reads
 use Rattle.peek.proofs.slot.handle_at.Reads as peek-slot-handle-at-reads
+use Rattle.peek.proofs.slot.children_at.Reads as peek-slot-children-at-reads
+use Rattle.peek.proofs.slot.parent_at.Reads as peek-slot-parent-at-reads
+use Rattle.peek.proofs.slot.is_live.Reads as peek-slot-is-live-reads
+use Rattle.peek.proofs.slot.is_retired.Reads as peek-slot-is-retired-reads
 use Rattle.peek.proofs.slot.context_at.Reads as peek-slot-context-at-reads
 use Rattle.peek.proofs.find.get_active_context_pos.Reads as peek-find-get-active-context-pos-reads
 use Rattle.peek.proofs.find.count_contexts.Reads as peek-find-count-contexts-reads
@@ -110,8 +114,10 @@ use Rattle.peek.proofs.find.get_next_inactive_context_pos.Reads as peek-find-ge
 use Rattle.peek.proofs.choose.generate_new_handle.Reads as peek-choose-generate-new-handle-reads
 use Rattle.peek.proofs.summary.links_of.Reads as peek-summary-links-of-reads
 use Rattle.peek.proofs.summary.places_of.Reads as peek-summary-places-of-reads
-use Rattle.peek.proofs.walk.get_descendants.Reads as peek-walk-get-descendants-reads
-use Rattle.peek.proofs.walk.root_to_leaf.Reads as peek-walk-root-to-leaf-reads
+use Rattle.peek.proofs.down.descend.Reads as peek-down-descend-reads
+use Rattle.peek.proofs.down.get_descendants.Reads as peek-down-get-descendants-reads
+use Rattle.peek.proofs.path.root_to_leaf.Reads as peek-path-root-to-leaf-reads
+use Rattle.peek.proofs.up.run_above.Reads as peek-up-run-above-reads
 use Rattle.peek.proofs.validate.validate_dpe.Reads as peek-validate-validate-dpe-reads
 use Rattle.place.proofs.initialize.initialize_context.Reads as place-initialize-initialize-context-reads
 use Rattle.place.proofs.rotate.rotate_context.Reads as place-rotate-rotate-context-reads
@@ -284,8 +290,8 @@ walks-descendants-descend κ a r r′ s s′ = one
 pub walks-descendants-get-descendants : OneResult walks-descendants-get-descendants-reads.Post
 walks-descendants-get-descendants κ a r r′ s s′ = one
 
-pub walks-path-climbed : OneResult walks-path-climbed-reads.Post
-walks-path-climbed κ a r r′ s s′ = one
+pub walks-path-byte : OneResult walks-path-byte-reads.Post
+walks-path-byte κ a r r′ s s′ = one
 
 pub walks-why : OneResult walks-why-reads.Post
 walks-why κ a r r′ s s′ = one
@@ -374,6 +380,9 @@ image-context-blank κ a r r′ s s′ = one
 pub image-context-answer-at : OneResult image-context-answer-at-reads.Post
 image-context-answer-at κ a r r′ s s′ = one
 
+pub image-context-is-good-at : OneResult image-context-is-good-at-reads.Post
+image-context-is-good-at κ a r r′ s s′ = one
+
 pub image-context-write-context : (κ : _) (a : _) (r r′ : _) (s s′ : _) → image-context-write-context-reads.Post κ a r s → image-context-write-context-reads.Post κ a r′ s′ → (now (s .0) ≡ now (s′ .0))
 image-context-write-context κ a r r′ s s′ p q = one p q
 
@@ -413,9 +422,6 @@ destroy-context-cleared-slot κ a r r′ s s′ = one
 pub destroy-context-cleared : OneResult destroy-context-cleared-reads.Post
 destroy-context-cleared κ a r r′ s s′ = one
 
-pub destroy-context-doomed : OneResult destroy-context-doomed-reads.Post
-destroy-context-doomed κ a r r′ s s′ = one
-
 pub destroy-context-destroy-slot : OneResult destroy-context-destroy-slot-reads.Post
 destroy-context-destroy-slot κ a r r′ s s′ = one
 
@@ -430,6 +436,18 @@ peek-slot-active-in κ a r r′ s s′ = one
 
 pub peek-slot-handle-at : OneResult peek-slot-handle-at-reads.Post
 peek-slot-handle-at κ a r r′ s s′ = one
+
+pub peek-slot-children-at : OneResult peek-slot-children-at-reads.Post
+peek-slot-children-at κ a r r′ s s′ = one
+
+pub peek-slot-parent-at : OneResult peek-slot-parent-at-reads.Post
+peek-slot-parent-at κ a r r′ s s′ = one
+
+pub peek-slot-is-live : OneResult peek-slot-is-live-reads.Post
+peek-slot-is-live κ a r r′ s s′ = one
+
+pub peek-slot-is-retired : OneResult peek-slot-is-retired-reads.Post
+peek-slot-is-retired κ a r r′ s s′ = one
 
 pub peek-slot-context-at : OneResult peek-slot-context-at-reads.Post
 peek-slot-context-at κ a r r′ s s′ = one
@@ -452,11 +470,17 @@ peek-summary-links-of κ a r r′ s s′ = one
 pub peek-summary-places-of : OneResult peek-summary-places-of-reads.Post
 peek-summary-places-of κ a r r′ s s′ = one
 
-pub peek-walk-get-descendants : OneResult peek-walk-get-descendants-reads.Post
-peek-walk-get-descendants κ a r r′ s s′ = one
+pub peek-down-descend : OneResult peek-down-descend-reads.Post
+peek-down-descend κ a r r′ s s′ = one
 
-pub peek-walk-root-to-leaf : OneResult peek-walk-root-to-leaf-reads.Post
-peek-walk-root-to-leaf κ a r r′ s s′ = one
+pub peek-down-get-descendants : OneResult peek-down-get-descendants-reads.Post
+peek-down-get-descendants κ a r r′ s s′ = one
+
+pub peek-path-root-to-leaf : OneResult peek-path-root-to-leaf-reads.Post
+peek-path-root-to-leaf κ a r r′ s s′ = one
+
+pub peek-up-run-above : OneResult peek-up-run-above-reads.Post
+peek-up-run-above κ a r r′ s s′ = one
 
 pub peek-validate-validate-dpe : OneResult peek-validate-validate-dpe-reads.Post
 peek-validate-validate-dpe κ a r r′ s s′ = one

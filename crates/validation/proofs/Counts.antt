@@ -8,13 +8,16 @@ use native.Mathlib.Omega.{arith}
 use lib.Dec.{eqb}
 use lib.ListN.{length, take}
 use lib.Seq.{take-all}
-use Rattle.children.specs.Below.{count, listOf}
+use Rattle.children.specs.Below.{count, some, listOf}
 use Rattle.children.specs.Marks.{slotCount, marked, hasBelow}
+use Rattle.children.proofs.Cases.{clash, not-false, eqb-true, true-eqb}
+use Rattle.children.proofs.Below.{none-at}
 use Rattle.children.proofs.Marks.{has-is}
 use Rattle.table.specs.declared.context.Context.{Context}
 use Rattle.links.specs.Summary.{marksOf}
 use Rattle.verdict.specs.Tests.{localityAt, defaultAt, otherAt, within, mixTest}
-use Rattle.validation.specs.Summary.{placesOf, tally}
+use Rattle.verdict.proofs.Localities.{Lone}
+use Rattle.validation.specs.Summary.{placesOf, besideIn, crowdedIn, tally}
 
 -- one slot more of a locality, where `has_child` told of its mark
 pub count-more : (place : ℕ → ℕ) (w l k d r : ℕ) (b : Bool) → k < slotCount → d ≡ count (within place (marked w) l) k → b ≡ hasBelow slotCount w k
@@ -44,3 +47,19 @@ module _ (s : ℕ → Context) (i : ℕ) (e : i ≡ slotCount) where
       let tl : l ≡ marksOf (defaultAt s) slotCount = el ∙ ap (marksOf (defaultAt s)) e in
       let tr : r ≡ marksOf (otherAt s) slotCount = er ∙ ap (marksOf (otherAt s)) e in
       rw (ta, tl, tr)
+
+-- ---- no default is crowded
+
+part-false : {a b : Bool} → a ≡ true → (a && b) ≡ false → b ≡ false
+part-false {a} {b} p e = sym (ap (λ (x : Bool). x && b) p) ∙ e
+
+none-of-two : (a b : Bool) → (a || b) ≡ false → (a ≡ false) × (b ≡ false)
+none-of-two true b e = clash refl e
+none-of-two false b e = (refl, e)
+
+-- then each is alone in its locality
+pub lone-of : (n : ℕ) (place : ℕ → ℕ) (def oth : ℕ → Bool) → some (crowdedIn n place def oth) n ≡ false → Lone n place def oth
+lone-of n place def oth e i k hi hk d q =
+    let none = part-false d (none-at (crowdedIn n place def oth) n i e hi) in
+    let w = none-of-two (def k && not (eqb k i)) (oth k) (part-false (true-eqb (place k) (place i) q) (none-at (besideIn place def oth i) n k none hk)) in
+    (λ t. eqb-true k i (not-false _ (part-false t (w .0))), w .1)

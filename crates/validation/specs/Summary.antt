@@ -1,10 +1,10 @@
 -- What the tests say of a table's summary: arrays and words of marks in place of the contexts. Assumes nothing: these are definitions.
-use mathlib.Core.Bool.{Bool, false, cond, not, _||_}
+use mathlib.Core.Bool.{Bool, false, cond, not, _&&_, _||_}
 use mathlib.Core.List.{List, []}
 use Prim.Native.Nat.{ℕ, suc}
 use lib.Dec.{eqb}
 use Rattle.error.specs.declared.ValidationError.the-variants.{CyclesInTree, MixedContextTypeConnectedComponents, ParentChildLinksCorrupted, InactiveChild}
-use Rattle.children.specs.Below.{listOf}
+use Rattle.children.specs.Below.{some, listOf}
 use Rattle.children.specs.Marks.{slotCount, marked}
 use Rattle.table.specs.declared.context.Context.{Context}
 use Rattle.table.specs.Bytes.{byteOf}
@@ -41,6 +41,14 @@ placesOf s = record {
   defaults = marksOf (defaultAt s) slotCount;
   others = marksOf (otherAt s) slotCount;
 }
+
+-- slot k is in the locality of slot i, and an active default other than i, or an active other
+abbrev pub besideIn : (ℕ → ℕ) → (ℕ → Bool) → (ℕ → Bool) → ℕ → ℕ → Bool
+besideIn place def oth i k = eqb (place k) (place i) && ((def k && not (eqb k i)) || oth k)
+
+-- slot i is an active default, and not alone in its locality
+abbrev pub crowdedIn : ℕ → (ℕ → ℕ) → (ℕ → Bool) → (ℕ → Bool) → ℕ → Bool
+crowdedIn n place def oth i = def i && some (besideIn place def oth i) n
 
 -- one more where b holds
 abbrev pub tally : Bool → ℕ → ℕ

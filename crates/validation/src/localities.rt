@@ -7,11 +7,12 @@ use table::state::State;
 use verdict::Verdict;
 ghost use mathlib.Core.Path.{_≡_};
 ghost use Prim.Native.Nat.{_<_};
+ghost use Rattle.children.specs.Below.{some};
 ghost use Rattle.children.specs.Marks.{slotCount, markCount, marked};
 ghost use Rattle.table.specs.Context.{slotOf};
 ghost use Rattle.links.specs.Summary.{numberIn};
 ghost use Rattle.verdict.specs.Tests.{within, mixTest, localityOf, localitiesTest};
-ghost use Rattle.validation.specs.Summary.{placesOf, tally};
+ghost use Rattle.validation.specs.Summary.{placesOf, besideIn, crowdedIn, tally};
 
 // Who is where.
 pub struct Places {
@@ -84,8 +85,45 @@ fn locality_test(localities: &[u32; MAX_HANDLES], defaults: u64, others: u64, l:
     Verdict::Valid
 }
 
-// The localities of the slots, upward.
-pub fn localities_test(localities: &[u32; MAX_HANDLES], defaults: u64, others: u64) -> Verdict
+// Whether another default than slot i, or an active other, is in the locality of slot i.
+fn shares(localities: &[u32; MAX_HANDLES], defaults: u64, others: u64, i: usize) -> bool
+    requires { ⌜ i < slotCount ⌝ }
+    ensures { λ r. ⌜ r ≡ some (besideIn (numberIn (now (localities .entry))) (marked defaults) (marked others) i) slotCount ⌝ }
+{
+    let l = localities[i];
+    let mut found = false;
+    for k in 0..MAX_HANDLES {
+        let other = (children::has_child(defaults, k) & (k != i)) | children::has_child(others, k);
+        found = found | ((localities[k] == l) & other);
+    }
+    found
+}
+
+// Whether slot i is an active default that is not alone in its locality.
+fn crowds(localities: &[u32; MAX_HANDLES], defaults: u64, others: u64, i: usize) -> bool
+    requires { ⌜ i < slotCount ⌝ }
+    ensures { λ r. ⌜ r ≡ crowdedIn slotCount (numberIn (now (localities .entry))) (marked defaults) (marked others) i ⌝ }
+{
+    if !children::has_child(defaults, i) {
+        return false;
+    }
+    shares(localities, defaults, others, i)
+}
+
+// Whether some slot is. Where none is, no locality has a fault.
+fn is_crowded(localities: &[u32; MAX_HANDLES], defaults: u64, others: u64) -> bool
+    ensures { λ r. ⌜ r ≡ some (crowdedIn slotCount (numberIn (now (localities .entry))) (marked defaults) (marked others)) slotCount ⌝ }
+{
+    for i in 0..MAX_HANDLES {
+        if crowds(localities, defaults, others, i) {
+            return true;
+        }
+    }
+    false
+}
+
+// The first fault of the localities of the slots, upward.
+fn first_fault(localities: &[u32; MAX_HANDLES], defaults: u64, others: u64) -> Verdict
     ensures { λ r. ⌜ r ≡ localitiesTest slotCount (numberIn (now (localities .entry))) (marked defaults) (marked others) ⌝ }
 {
     for j in 0..MAX_HANDLES {
@@ -95,4 +133,14 @@ pub fn localities_test(localities: &[u32; MAX_HANDLES], defaults: u64, others: u
         };
     }
     Verdict::Valid
+}
+
+// The localities of the slots, upward.
+pub fn localities_test(localities: &[u32; MAX_HANDLES], defaults: u64, others: u64) -> Verdict
+    ensures { λ r. ⌜ r ≡ localitiesTest slotCount (numberIn (now (localities .entry))) (marked defaults) (marked others) ⌝ }
+{
+    if !is_crowded(localities, defaults, others) {
+        return Verdict::Valid;
+    }
+    first_fault(localities, defaults, others)
 }

@@ -6,7 +6,7 @@ use Prim.Native.Nat.{ℕ, suc, _-_, _<_}
 use native.Mathlib.Decide.{ℕ-discrete, decLt}
 use native.Mathlib.Omega.{arith}
 use Rattle.children.specs.Below.{count}
-use Rattle.children.proofs.Cases.{two, clash}
+use Rattle.children.proofs.Cases.{two, clash, and-true, not-true}
 use Rattle.children.proofs.Below.{count-some, count-pos, count-one, count-more}
 use Rattle.table.specs.declared.context.ContextState.{ContextState}
 use Rattle.table.specs.declared.context.ContextState.the-variants.{Inactive, Active, Retired}
@@ -33,6 +33,55 @@ locality-iff : (n : ℕ) (def oth : ℕ → Bool)
 unfolding localityOf
 locality-iff n def oth = all n (λ k h. mix-iff (count def (suc k)) (count oth (suc k)))
 
+-- ---- where a locality is known from functions: def and oth are the active defaults and others, place is the locality of a slot
+
+module _ (n : ℕ) (place : ℕ → ℕ) (def oth : ℕ → Bool) where
+  -- a default has no second default and no other in its locality
+  abbrev pub Lone : Type 0
+  Lone = (i k : ℕ) → i < n → k < n → def i ≡ true → place k ≡ place i → (def k ≡ true → k ≡ i) × (oth k ≡ false)
+
+  abbrev Counts : ℕ → ℕ → Type 0
+  Counts l k = (count (within place def l) (suc k) < 2) × (count (within place def l) (suc k) ≢ 0 → count (within place oth l) (suc k) ≡ 0)
+
+  in-locality : (f : ℕ → Bool) (l i : ℕ) → within place f l i ≡ true → (place i ≡ l) × (f i ≡ true)
+  in-locality f l i e = and-iff (eqb-iff (place i) l) same .0 e
+
+  lone-counts : Lone → (l k : ℕ) → k < n → Counts l k
+  lone-counts f l k hk = (
+    elim (decLt (count (within place def l) (suc k)) 2) [
+      | yes t ↦ t
+      | no nt ↦
+          let r = count-more (within place def l) (suc k) (omega arith) in
+          let lt = r .2 in
+          let h = r .3 in
+          let a = in-locality def l (r .0) (r .4) in
+          let b = in-locality def l (r .1) (r .5) in
+          let e = f (r .0) (r .1) (omega arith) (omega arith) (a .1) (b .0 ∙ sym (a .0)) .0 (b .1) in
+          omega arith
+    ],
+    λ nz. elim (ℕ-discrete (count (within place oth l) (suc k)) 0) [
+      | yes t ↦ t
+      | no nt ↦
+          let x = count-some (within place def l) (suc k) (omega arith) in
+          let y = count-some (within place oth l) (suc k) (omega arith) in
+          let a = in-locality def l (x .0) (x .2) in
+          let b = in-locality oth l (y .0) (y .2) in
+          let hx = x .1 in
+          let hy = y .1 in
+          clash (b .1) (f (x .0) (y .0) (omega arith) (omega arith) (a .1) (b .0 ∙ sym (a .0)) .1)
+    ],
+  )
+
+  tests-iff : (localitiesTest n place def oth ≡ Valid) ↔ ((j : ℕ) → j < n → (k : ℕ) → k < n → Counts (place j) k)
+  unfolding localitiesTest
+  tests-iff = all n (λ j h. locality-iff n (within place def (place j)) (within place oth (place j)))
+
+  -- then the tests find no fault
+  pub lone-valid : Lone → localitiesTest n place def oth ≡ Valid
+  lone-valid f = tests-iff .1 (λ j h. lone-counts f (place j))
+
+-- ---- where the contexts say it
+
 module _ (n : ℕ) (s : ℕ → Context) where
   abbrev defaultIn : ℕ → ℕ → Bool
   defaultIn = within (localityAt s) (defaultAt s)
@@ -46,10 +95,7 @@ module _ (n : ℕ) (s : ℕ → Context) where
   oth-iff : (l i : ℕ) → (otherIn l i ≡ true) ↔ ((s i .locality ≡ l) × ((s i .state ≡ Active) × (isDefault (s i .handle) ≡ false)))
   oth-iff l i = and-iff (eqb-iff (s i .locality) l) (and-iff (active-iff (s i .state)) (not-iff _ same))
 
-  abbrev Counts : ℕ → ℕ → Type 0
-  Counts l k = (count (defaultIn l) (suc k) < 2) × (count (defaultIn l) (suc k) ≢ 0 → count (otherIn l) (suc k) ≡ 0)
-
-  of-counts : ((j : ℕ) → j < n → (k : ℕ) → k < n → Counts (s j .locality) k) → Alone n s
+  of-counts : ((j : ℕ) → j < n → (k : ℕ) → k < n → Counts n (localityAt s) (defaultAt s) (otherAt s) (s j .locality) k) → Alone n s
   of-counts f i j a b ne e d =
       let hi = a .slot in
       let hj = b .slot in
@@ -67,35 +113,18 @@ module _ (n : ℕ) (s : ℕ → Context) where
             omega arith
       ]
 
-  to-counts : Alone n s → (j : ℕ) → j < n → (k : ℕ) → k < n → Counts (s j .locality) k
-  to-counts f j hj k hk = (
-    elim (decLt (count (defaultIn (s j .locality)) (suc k)) 2) [
-      | yes t ↦ t
-      | no nt ↦
-          let r = count-more (defaultIn (s j .locality)) (suc k) (omega arith) in
-          let lt = r .2 in
-          let h = r .3 in
-          let a = def-iff (s j .locality) (r .0) .0 (r .4) in
-          let b = def-iff (s j .locality) (r .1) .0 (r .5) in
-          absurd (f (r .0) (r .1) (record { slot = omega arith; active = a .1 .0 }) (record { slot = omega arith; active = b .1 .0 })
-          (λ e. omega arith) (a .0 ∙ sym (b .0)) (a .1 .1))
-    ],
-    λ nz. elim (ℕ-discrete (count (otherIn (s j .locality)) (suc k)) 0) [
-      | yes t ↦ t
-      | no nt ↦
-          let x = count-some (defaultIn (s j .locality)) (suc k) (omega arith) in
-          let y = count-some (otherIn (s j .locality)) (suc k) (omega arith) in
-          let a = def-iff (s j .locality) (x .0) .0 (x .2) in
-          let b = oth-iff (s j .locality) (y .0) .0 (y .2) in
-          let hx = x .1 in
-          let hy = y .1 in
-          absurd (f (x .0) (y .0) (record { slot = omega arith; active = a .1 .0 }) (record { slot = omega arith; active = b .1 .0 })
-          (λ e. clash (same-iff (s (y .0) .handle) defaultHandle .1 (rw e at (a .1 .1))) (b .1 .1)) (a .0 ∙ sym (b .0)) (a .1 .1))
-    ],
-  )
+  to-lone : Alone n s → Lone n (localityAt s) (defaultAt s) (otherAt s)
+  to-lone f i k hi hk d e =
+      let a = def-iff (s i .locality) i .0 (and-iff (eqb-iff (s i .locality) (s i .locality)) same .1 (refl, d)) in
+      let default : isDefault (s i .handle) ≡ true = and-true (isActive (s i .state)) (isDefault (s i .handle)) d .1 in
+      let apart : isActive (s k .state) ≡ true → (i ≡ k → ⊥) → ⊥ = λ w ne.
+      f i k (record { slot = hi; active = a .1 .0 }) (record { slot = hk; active = active-iff (s k .state) .0 w }) ne (sym e) (a .1 .1) in (
+        λ w. elim (ℕ-discrete i k) [ yes q ↦ sym q | no ne ↦ absurd (apart (and-true _ _ w .0) ne) ],
+        elim (two (otherAt s k)) [
+          | inr no-other ↦ no-other
+          | inl w ↦ absurd (apart (and-true _ _ w .0) (λ q. clash (rw q at default) (not-true (isDefault (s k .handle)) (and-true (isActive (s k .state)) _ w .1))))
+        ],
+      )
 
   pub localities-iff : (localitiesOf n s ≡ Valid) ↔ Alone n s
-  unfolding localitiesTest
-  localities-iff =
-      let p = all n (λ j h. locality-iff n (defaultIn (s j .locality)) (otherIn (s j .locality))) in
-      (λ e. of-counts (p .0 e), λ f. p .1 (to-counts f))
+  localities-iff = (λ e. of-counts (tests-iff n (localityAt s) (defaultAt s) (otherAt s) .0 e), λ f. lone-valid n (localityAt s) (defaultAt s) (otherAt s) (to-lone f))

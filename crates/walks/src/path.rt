@@ -61,7 +61,7 @@ fn length(parents: &[u8; MAX_HANDLES], live: u64, slot: usize) -> Found
     Found::Refused(DpeErrorCode::InternalError(InternalErrorCode::TciNodeCountExceeded))
 }
 
-fn byte(x: usize) -> u8
+pub fn byte(x: usize) -> u8
     requires { ⌜ x < slotCount ⌝ }
     ensures { λ r. ⌜ r ≡ x ⌝ }
 {
@@ -83,7 +83,7 @@ fn laid(parents: &[u8; MAX_HANDLES], slot: usize, k: usize) -> [u8; MAX_HANDLES]
 }
 
 // The path from the root down to a slot, over the parents and the live slots of a table.
-pub fn climbed(parents: &[u8; MAX_HANDLES], live: u64, slot: usize) -> Path
+fn climbed(parents: &[u8; MAX_HANDLES], live: u64, slot: usize) -> Path
     ensures { λ r. ⌜ r ≡ pathOf slotCount (marked live) (numberIn (now (parents .entry))) slot ⌝ }
 {
     let length = length(parents, live, slot);

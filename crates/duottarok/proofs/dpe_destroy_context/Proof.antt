@@ -3,7 +3,9 @@ use mathlib.Core.Path.{_≡_, sym, ap, _∙_}
 use denote.Ref.{now}
 use Rattle.error.specs.declared.Outcome.the-variants.{Refused}
 use Rattle.error.specs.Numbers.{wordOf}
+use Rattle.children.proofs.Cases.{not-true, not-false}
 use Rattle.image.specs.State.{decodeState}
+use Rattle.image.proofs.Reading.{readable-done, not-readable}
 use Rattle.destroy_context.specs.declared.Destroyed.{Destroyed}
 use Rattle.destroy_context.specs.Destroy.{destroyOf}
 use Rattle.place.specs.Place.{destroyedAfter}
@@ -14,14 +16,11 @@ use borrow.Author.Needs.{needs}
 use Rattle.duottarok.proofs.dpe_destroy_context.Statement.{statement}
 use Rattle.duottarok.proofs.dpe_destroy_context.Tie as tie
 
+is-readable-requires : tie.Need-is-readable-requires
+is-readable-requires c κs = search needs
+
 readable-requires : tie.Need-readable-requires
 readable-requires c κs = search needs
-
-enum-told : tie.Need-enum-told
-enum-told c = search needs
-
-enum-told-2 : tie.Need-enum-told-2
-enum-told-2 c = search needs
 
 word-requires : tie.Need-word-requires
 word-requires c κs = search needs
@@ -31,13 +30,14 @@ same-length c = search needs
 
 returns : tie.Need-returns
 returns c =
-    let a = c .before .before .before .before .before .before .args in
+    let a = c .before .before .before .before .before .before .before .args in
     let d = destroyAt (now (a .image)) (now (a .handle)) (a .locality) in
-    let e : d .answer ≡ Refused _ = unread-destroy _ _ (sym (c .before .before .before .readable .ensures) ∙ c .before .enum-told2 .given .1) _ _ in
-    (c .word .ensures ∙ ap wordOf (c .before .enum-told2 .given .1 ∙ sym e), gone-refused d (now (a .image)) _ e)
+    let x = not-readable (now (a .image)) (sym (c .before .before .before .before .is-readable .ensures) ∙ not-true _ (c .before .before .before .if1 .taken)) in
+    let e : d .answer ≡ Refused (x .0) = unread-destroy _ _ (x .1) _ _ in
+    (c .word .ensures ∙ ap wordOf (c .before .readable .ensures ∙ x .1 ∙ sym e), gone-refused d (now (a .image)) _ e)
 
 destroy-context-requires : tie.Need-destroy-context-requires
-destroy-context-requires c κs = sym (c .before .before .before .before .readable .ensures) ∙ c .before .before .enum-told .given .1
+destroy-context-requires c κs = readable-done _ (sym (c .before .before .before .is-readable .ensures) ∙ not-false _ (c .before .before .if1 .left))
 
 word-requires-2 : tie.Need-word-requires-2
 word-requires-2 c κs = search needs
@@ -47,9 +47,9 @@ same-length-2 c = search needs
 
 returns-2 : tie.Need-returns-2
 returns-2 c =
-    let a = c .before .before .before .before .before .before .before .before .before .before .before .args in
+    let a = c .before .before .before .before .before .before .before .before .before .before .args in
     let l = now (a .image) in
-    let r = read-destroy _ (sym (c .before .before .before .before .before .before .before .before .readable .ensures) ∙ c .before .before .before .before .before .before .enum-told .given .1) (decodeState l) (destroyOf (decodeState l) (now (a .handle)) (a .locality)) in
+    let r = read-destroy _ (readable-done _ (sym (c .before .before .before .before .before .before .before .is-readable .ensures) ∙ not-false _ (c .before .before .before .before .before .before .if1 .left))) (decodeState l) (destroyOf (decodeState l) (now (a .handle)) (a .locality)) in
     let e = c .before .before .before .destroy-context .ensures in
     (c .word2 .ensures ∙ ap wordOf (e .0 ∙ sym (ap (λ (x : Destroyed). x .answer) r)), e .1 ∙ sym (ap (λ (x : Destroyed). destroyedAfter x l) r))
 
@@ -57,9 +57,8 @@ pub dpe-destroy-context-spec : {M : Type 1} → statement M
 dpe-destroy-context-spec =
     tie.close
     (tie.spec
+    is-readable-requires
     readable-requires
-    enum-told
-    enum-told-2
     word-requires
     same-length
     returns

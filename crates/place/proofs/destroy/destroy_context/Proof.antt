@@ -2,13 +2,14 @@
 use mathlib.Core.Path.{sym, ap, _∙_}
 use denote.Ref.{now}
 use Rattle.error.specs.declared.Outcome.the-variants.{Refused}
-use Rattle.table.specs.Context.{slotOf}
+use Rattle.children.specs.Marks.{slotCount}
 use Rattle.image.specs.State.{decodeState, encodeState}
 use Rattle.image.proofs.Reading.{readable-size}
 use Rattle.lookup.specs.Lookup as lookup
+use Rattle.lookup.proofs.Lookup.{found-iff}
 use Rattle.walks.specs.Walks as walks
 use Rattle.destroy_context.specs.declared.Destroyed.{Destroyed}
-use Rattle.destroy_context.proofs.Calls.{doomed-summary, slot-refused, slot-cleared, not-found, found-at}
+use Rattle.destroy_context.proofs.Calls.{slot-refused, slot-cleared, not-found, found-at}
 use Rattle.place.proofs.After.{gone-refused, gone-done}
 use borrow.Author.Needs.{needs}
 use Rattle.place.proofs.destroy.destroy_context.Statement.{statement}
@@ -36,11 +37,11 @@ returns c =
     let d = ap (λ (x : Destroyed). x .answer) (not-found (decodeState (now (s .args .image))) (s .args .handle) (s .args .locality) _ (sym (c .before .before .before .get-active-context-pos .ensures) ∙ q)) in
     (ap Refused (c .why .ensures ∙ ap lookup.whyOf q) ∙ sym d, gone-refused _ _ _ d)
 
-links-of-requires : tie.Need-links-of-requires
-links-of-requires c κs = readable-size _ (c .before .before .before .before .before .before .before .pre)
-
 doomed-requires : tie.Need-doomed-requires
-doomed-requires c κs = search needs
+doomed-requires c κs =
+    let s = c .before .before .before .before .before .before .before in
+    let e = sym (c .before .before .before .before .get-active-context-pos .ensures) ∙ c .before .before .found .given .1 in
+    (readable-size _ (s .pre), found-iff slotCount _ (s .args .handle) (s .args .locality) _ .0 e .below)
 
 enum-known-gone : tie.Need-enum-known-gone
 enum-known-gone c = search needs
@@ -56,14 +57,12 @@ same-length-2 c = search needs
 
 returns-2 : tie.Need-returns-2
 returns-2 c =
-    let s = c .before .before .before .before .before .before .before .before .before .before .before .before in
+    let s = c .before .before .before .before .before .before .before .before .before .before .before in
     let t = decodeState (now (s .args .image)) in
-    let l = c .before .before .before .before .links-of in
     let q = c .before .enum-told2 .given .1 in
-    let slot = c .before .before .before .before .before .before .before .found .given in
-    let at = found-at t (s .args .handle) (s .args .locality) _ (sym (c .before .before .before .before .before .before .before .before .before .get-active-context-pos .ensures) ∙ slot .1) in
-    let all = sym (doomed-summary (slotOf (t .contexts)) (l .result) (l .ensures) (slot .0 .0)) ∙ sym (c .before .before .before .doomed .ensures) in
-    let d = ap (λ (x : Destroyed). x .answer) (at ∙ slot-refused t (slot .0 .0) _ (all ∙ q)) in
+    let slot = c .before .before .before .before .before .before .found .given in
+    let at = found-at t (s .args .handle) (s .args .locality) _ (sym (c .before .before .before .before .before .before .before .before .get-active-context-pos .ensures) ∙ slot .1) in
+    let d = ap (λ (x : Destroyed). x .answer) (at ∙ slot-refused t (slot .0 .0) _ (sym (c .before .before .before .doomed .ensures) ∙ q)) in
     (ap Refused (c .why2 .ensures ∙ ap walks.whyOf q) ∙ sym d, gone-refused _ _ _ d)
 
 clear-requires : tie.Need-clear-requires
@@ -74,13 +73,11 @@ same-length-3 c = search needs
 
 returns-3 : tie.Need-returns-3
 returns-3 c =
-    let s = c .before .before .before .before .before .before .before .before .before .before .before .before .before .before .before .before in
+    let s = c .before .before .before .before .before .before .before .before .before .before .before .before .before .before .before in
     let t = decodeState (now (s .args .image)) in
-    let l = c .before .before .before .before .before .before .before .before .links-of in
-    let slot = c .before .before .before .before .before .before .before .before .before .before .before .found .given in
-    let at = found-at t (s .args .handle) (s .args .locality) _ (sym (c .before .before .before .before .before .before .before .before .before .before .before .before .before .get-active-context-pos .ensures) ∙ slot .1) in
-    let all = sym (doomed-summary (slotOf (t .contexts)) (l .result) (l .ensures) (slot .0 .0)) ∙ sym (c .before .before .before .before .before .before .before .doomed .ensures) in
-    let e = at ∙ slot-cleared t (slot .0 .0) _ (all ∙ c .before .before .before .before .before .gone .given .1) in
+    let slot = c .before .before .before .before .before .before .before .before .before .before .found .given in
+    let at = found-at t (s .args .handle) (s .args .locality) _ (sym (c .before .before .before .before .before .before .before .before .before .before .before .before .get-active-context-pos .ensures) ∙ slot .1) in
+    let e = at ∙ slot-cleared t (slot .0 .0) _ (sym (c .before .before .before .before .before .before .before .doomed .ensures) ∙ c .before .before .before .before .before .gone .given .1) in
     let d = ap (λ (x : Destroyed). x .answer) e in
     (sym d, gone-done _ _ _ d (c .before .before .clear .ensures ∙ ap (λ (x : Destroyed). encodeState (x .state)) (sym e)))
 
@@ -94,7 +91,6 @@ destroy-context-spec =
     why-requires
     same-length
     returns
-    links-of-requires
     doomed-requires
     enum-known-gone
     enum-told-2
