@@ -42,8 +42,8 @@ fn are_good(image: &[u8]) -> bool
     ensures { λ r. ⌜ r ≡ every (goodSlot (now (image .entry))) slotCount ⌝ }
 {
     let mut good = true;
-    for slot in 0..MAX_HANDLES {
-        good = good & context::is_good_at(image, CONTEXTS_AT + context::SIZE * slot);
+    for i in 0..MAX_HANDLES {
+        good = good & context::is_good_at(image, CONTEXTS_AT + context::SIZE * i);
     }
     good
 }
@@ -52,10 +52,10 @@ fn are_good(image: &[u8]) -> bool
 pub fn is_readable(image: &[u8]) -> bool
     ensures { λ r. ⌜ r ≡ isReadable (now (image .entry)) ⌝ }
 {
-    if image.len() != SIZE {
-        return false;
+    if image.len() == SIZE {
+        return are_good(image);
     }
-    are_good(image)
+    false
 }
 
 // What reading the image answers; nothing is built.

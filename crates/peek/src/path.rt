@@ -9,12 +9,20 @@ use walks::path;
 use walks::path::Path;
 use walks::run;
 ghost use mathlib.Core.Path.{_≡_};
-ghost use lib.ListN.{length};
+ghost use Prim.Native.Nat.{ℕ, _≤_};
+ghost use lib.ListN.{length, take};
+ghost use Rattle.children.specs.Below.{listOf};
 ghost use Rattle.children.specs.Marks.{slotCount};
 ghost use Rattle.table.specs.Context.{slotOf};
 ghost use Rattle.image.specs.State.{stateSize, decodeState};
-ghost use Rattle.links.specs.Summary.{liveAt, parentAt, stepsUp};
-ghost use Rattle.walks.specs.Path.{parentOf, lengthFrom, slotsOf, pathIn, Climbs};
+ghost use Rattle.links.specs.Summary.{liveAt, parentAt, numberIn, stepsUp};
+ghost use Rattle.walks.specs.Path.{parentOf, lengthFrom, slotsOf, pathIn};
+
+// A climb from a slot to its root: how many slots the path has, or why there is none; and the slots met, the slot itself first.
+struct Climb {
+    length: Found,
+    up: [u8; MAX_HANDLES],
+}
 
 // The parent of a slot that may stand on a path.
 fn parent_of(image: &[u8], slot: usize) -> Found
@@ -37,39 +45,48 @@ fn parent_of(image: &[u8], slot: usize) -> Found
     Found::At(run::index(p))
 }
 
-// How many slots the path to a slot has.
-fn length(image: &[u8], slot: usize) -> Found
+// The climb from a slot to its root, each parent read once.
+fn climbed(image: &[u8], slot: usize) -> Climb
     requires { ⌜ length (now image) ≡ stateSize ⌝ }
-    ensures { λ r. ⌜ r ≡ lengthFrom slotCount (liveAt (slotOf (decodeState (now (image .entry)) .contexts))) (parentAt (slotOf (decodeState (now (image .entry)) .contexts))) slotCount 0 slot ⌝ }
+    ensures { λ r. ⌜ r .length ≡ lengthFrom slotCount (liveAt (slotOf (decodeState (now (image .entry)) .contexts))) (parentAt (slotOf (decodeState (now (image .entry)) .contexts))) slotCount 0 slot ⌝ }
+    ensures { λ r. ⌜ ((k : ℕ) → r .length ≡ Found.At k → take k (r .up) ≡ listOf (λ j. stepsUp (parentAt (slotOf (decodeState (now (image .entry)) .contexts))) j slot) k) ⌝ }
 {
+    let mut up = [0u8; MAX_HANDLES];
     let mut x = slot;
     for j in 0..MAX_HANDLES {
         let f = parent_of(image, x);
         let Found::At(p) = f else {
-            return f;
+            return Climb { length: f, up };
         };
+        up[j] = path::byte(x);
         if p == run::index(ROOT_INDEX) {
-            return Found::At(j + 1);
+            return Climb {
+                length: Found::At(j + 1),
+                up,
+            };
         }
         x = p;
     }
     let f = parent_of(image, x);
     let Found::At(_) = f else {
-        return f;
+        return Climb { length: f, up };
     };
-    Found::Refused(DpeErrorCode::InternalError(InternalErrorCode::TciNodeCountExceeded))
+    Climb {
+        length: Found::Refused(DpeErrorCode::InternalError(
+            InternalErrorCode::TciNodeCountExceeded,
+        )),
+        up,
+    }
 }
 
-// The slots of a path of k slots, from the root on: the last is the slot itself.
-fn laid(image: &[u8], slot: usize, k: usize) -> [u8; MAX_HANDLES]
-    requires { ⌜ (length (now image) ≡ stateSize) × Climbs slotCount (parentAt (slotOf (decodeState (now image) .contexts))) slot k ⌝ }
-    ensures { λ r. ⌜ r ≡ slotsOf slotCount (λ j. stepsUp (parentAt (slotOf (decodeState (now (image .entry)) .contexts))) j slot) (Found.At k) ⌝ }
+// The slots of a path of k slots, from the root on, where `up` has them from the last on.
+fn laid(up: &[u8; MAX_HANDLES], k: usize) -> [u8; MAX_HANDLES]
+    requires { ⌜ k ≤ slotCount ⌝ }
+    ensures { λ r. ⌜ r ≡ slotsOf slotCount (numberIn (now (up .entry))) (Found.At k) ⌝ }
 {
     let mut slots = [0u8; MAX_HANDLES];
-    let mut x = slot;
     for j in 0..k {
-        slots[k - 1 - j] = path::byte(x);
-        x = run::index(slot::parent_at(image, x));
+        slots[k - 1 - j] = up[j];
     }
     slots
 }
@@ -79,11 +96,12 @@ pub fn root_to_leaf(image: &[u8], slot: usize) -> Path
     requires { ⌜ length (now image) ≡ stateSize ⌝ }
     ensures { λ r. ⌜ r ≡ pathIn slotCount (slotOf (decodeState (now (image .entry)) .contexts)) slot ⌝ }
 {
-    let length = length(image, slot);
+    let c = climbed(image, slot);
+    let length = c.length;
     let Found::At(k) = length else {
         let slots = [0u8; MAX_HANDLES];
         return Path { length, slots };
     };
-    let slots = laid(image, slot, k);
+    let slots = laid(&c.up, k);
     Path { length, slots }
 }

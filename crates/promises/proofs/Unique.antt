@@ -87,6 +87,7 @@ use Rattle.image.proofs.context.write_context.Reads as image-context-write-cont
 use Rattle.image.proofs.context.state_byte.Reads as image-context-state-byte-reads
 use Rattle.image.proofs.context.type_byte.Reads as image-context-type-byte-reads
 use Rattle.image.proofs.state.readable.Reads as image-state-readable-reads
+use Rattle.image.proofs.state.is_readable.Reads as image-state-is-readable-reads
 use Rattle.image.proofs.state.read_state.Reads as image-state-read-state-reads
 use Rattle.image.proofs.state.write_state.Reads as image-state-write-state-reads
 use Rattle.validation.proofs.validate_dpe.Reads as validation-validate-dpe-reads
@@ -388,6 +389,9 @@ image-context-write-context κ a r r′ s s′ p q = one p q
 
 pub image-state-readable : OneResult image-state-readable-reads.Post
 image-state-readable κ a r r′ s s′ = one
+
+pub image-state-is-readable : OneResult image-state-is-readable-reads.Post
+image-state-is-readable κ a r r′ s s′ = one
 
 pub image-state-read-state : OneResult image-state-read-state-reads.Post
 image-state-read-state κ a r r′ s s′ = one

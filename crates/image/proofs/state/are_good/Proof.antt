@@ -12,10 +12,10 @@ use Rattle.image.proofs.state.are_good.Statement.{statement}
 use Rattle.image.proofs.state.are_good.Tie as tie
 
 abbrev Inv-loop : tie.InvT-loop
-Inv-loop image good₀ slot₀ good slot = (slot ≤ slotCount) × (good ≡ every (goodSlot image) slot)
+Inv-loop image good₀ i₀ good i = (i ≤ slotCount) × (good ≡ every (goodSlot image) i)
 
 abbrev μ-loop : tie.MeasureT-loop
-μ-loop image good₀ slot₀ good slot = slotCount - slot
+μ-loop image good₀ i₀ good i = slotCount - i
 
 loop-holds : tie.Need-loop-holds Inv-loop μ-loop
 unfolding every
@@ -30,8 +30,8 @@ add-is-good-at c = search needs
 is-good-at-requires : tie.Need-is-good-at-requires Inv-loop μ-loop
 is-good-at-requires c κs = search needs
 
-add-slot : tie.Need-add-slot Inv-loop μ-loop
-add-slot c = search needs
+add-i : tie.Need-add-i Inv-loop μ-loop
+add-i c = search needs
 
 loop-less : tie.Need-loop-less Inv-loop μ-loop
 loop-less c = search needs
@@ -40,7 +40,7 @@ loop-again : tie.Need-loop-again Inv-loop μ-loop
 unfolding every
 loop-again c =
     let l = c .before .before .loop in
-    (omega arith, rw (add-one (l .slot), l .inv .1, c .is-good-at .ensures))
+    (omega arith, rw (add-one (l .i), l .inv .1, c .is-good-at .ensures))
 
 returns : tie.Need-returns Inv-loop μ-loop
 returns c =
@@ -57,7 +57,7 @@ are-good-spec =
     mul-is-good-at
     add-is-good-at
     is-good-at-requires
-    add-slot
+    add-i
     loop-less
     loop-again
     returns)

@@ -1,36 +1,27 @@
 -- `peek::path::laid` meets its contract. Assumes nothing.
-use mathlib.Core.Path.{_≡_, refl, sym, ap, _∙_}
-use Prim.Native.Nat.{ℕ, _≤_, _-_}
-use native.Mathlib.Numerals.{add-one}
+use mathlib.Core.Path.{_≡_, refl}
+use Prim.Native.Nat.{_≤_, _-_}
 use native.Mathlib.Omega.{arith}
-use borrow.Author.Needs.{needs}
 use denote.Ref.{now}
 use Rattle.children.specs.Below.{listOf}
 use Rattle.children.specs.Marks.{slotCount}
-use Rattle.table.specs.Context.{slotOf}
-use Rattle.image.specs.State.{decodeState}
-use Rattle.links.specs.Summary.{parentAt, stepsUp}
+use Rattle.links.specs.Summary.{numberIn}
 use Rattle.walks.proofs.Steps.{cell, laid-none, laid-more, laid-all}
 use Rattle.peek.proofs.path.laid.Statement.{statement}
 use Rattle.peek.proofs.path.laid.Tie as tie
 
 abbrev Inv-loop : tie.InvT-loop
-Inv-loop image slot k slots₀ x₀ j₀ slots x j =
-    (j ≤ k)
-    × (x ≡ stepsUp (parentAt (slotOf (decodeState image .contexts))) j slot)
-    × (slots ≡ listOf (cell (λ (i : ℕ). stepsUp (parentAt (slotOf (decodeState image .contexts))) i slot) k j) slotCount)
+Inv-loop up k slots₀ j₀ slots j = (j ≤ k) × (slots ≡ listOf (cell (numberIn up) k j) slotCount)
 
 abbrev μ-loop : tie.MeasureT-loop
-μ-loop image slot k slots₀ x₀ j₀ slots x j = k - j
+μ-loop up k slots₀ j₀ slots j = k - j
 
 loop-holds : tie.Need-loop-holds Inv-loop μ-loop
-unfolding stepsUp listOf
-loop-holds c =
-    let a = c .before .args in
-    (omega arith, refl, laid-none (λ (i : ℕ). stepsUp (parentAt (slotOf (decodeState (now (a .image)) .contexts))) i (a .slot)) slotCount (a .k))
+unfolding listOf
+loop-holds c = (omega arith, laid-none (numberIn (now (c .args .up))) slotCount (c .args .k))
 
-byte-requires : tie.Need-byte-requires Inv-loop μ-loop
-byte-requires c κs = let h = c .before .before .before .pre .1 .slots (c .before .loop .j) (omega arith) in omega arith
+element-copy-out-slots : tie.Need-element-copy-out-slots Inv-loop μ-loop
+element-copy-out-slots c = let f = c .before .before .pre in omega arith
 
 sub-slots : tie.Need-sub-slots Inv-loop μ-loop
 sub-slots c = omega arith
@@ -39,40 +30,25 @@ sub-slots-2 : tie.Need-sub-slots-2 Inv-loop μ-loop
 sub-slots-2 c = omega arith
 
 array-write-slots : tie.Need-array-write-slots Inv-loop μ-loop
-array-write-slots c = let f = c .before .before .before .before .pre .1 .few in omega arith
-
-parent-at-requires : tie.Need-parent-at-requires Inv-loop μ-loop
-parent-at-requires c κs =
-    let s = c .before .before .before .before in
-    let h = s .pre .1 .slots (c .before .before .loop .j) (omega arith) in (s .pre .0, omega arith)
-
-index-requires : tie.Need-index-requires Inv-loop μ-loop
-index-requires c κs = search needs
+array-write-slots c = let f = c .before .before .before .pre in omega arith
 
 add-j : tie.Need-add-j Inv-loop μ-loop
-add-j c = let f = c .before .before .before .before .before .before .pre .1 .few in omega arith
+add-j c = let f = c .before .before .before .pre in omega arith
 
 loop-less : tie.Need-loop-less Inv-loop μ-loop
 loop-less c = omega arith
 
 loop-again : tie.Need-loop-again Inv-loop μ-loop
-unfolding stepsUp
 loop-again c =
-    let l = c .before .before .before .before .loop in
-    let s = c .before .before .before .before .before .before in
-    let parent : ℕ → ℕ = parentAt (slotOf (decodeState (now (s .args .image)) .contexts)) in
-    let up : ℕ → ℕ = λ i. stepsUp parent i (s .args .slot) in (
-      omega arith,
-      c .index .ensures ∙ c .before .parent-at .ensures ∙ ap parent (l .inv .1) ∙ sym (ap up (add-one (l .j))),
-      laid-more up slotCount (s .args .k) (s .pre .1 .few) (l .j) _ (l .slots) (omega arith) (c .before .before .byte .ensures ∙ l .inv .1) (l .inv .2),
-    )
+    let l = c .before .before .loop in
+    let s = c .before .before .before in
+    (omega arith, laid-more (numberIn (now (s .args .up))) slotCount (s .args .k) (s .pre) (l .j) _ (l .slots) (omega arith) refl (l .inv .1))
 
 returns : tie.Need-returns Inv-loop μ-loop
 returns c =
     let l = c .before .loop in
-    let s = c .before .before .before in
-    let parent : ℕ → ℕ = parentAt (slotOf (decodeState (now (s .args .image)) .contexts)) in
-    laid-all (λ (i : ℕ). stepsUp parent i (s .args .slot)) slotCount (s .args .k) (s .pre .1 .few) (l .j) (l .slots) (omega arith) (l .inv .2)
+    let s = c .before .before in
+    laid-all (numberIn (now (s .args .up))) slotCount (s .args .k) (s .pre) (l .j) (l .slots) (omega arith) (l .inv .1)
 
 pub laid-spec : {M : Type 1} → statement M
 laid-spec =
@@ -81,12 +57,10 @@ laid-spec =
     Inv-loop
     μ-loop
     loop-holds
-    byte-requires
+    element-copy-out-slots
     sub-slots
     sub-slots-2
     array-write-slots
-    parent-at-requires
-    index-requires
     add-j
     loop-less
     loop-again
