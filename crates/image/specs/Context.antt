@@ -1,5 +1,5 @@
 -- One context of the state image, from document 01's offsets. Assumes nothing: these are definitions.
-use Prim.Native.Nat.{ℕ, zero, suc}
+use Prim.Native.Nat.{ℕ, zero, suc, _+_, _*_, _%_}
 use mathlib.Core.Bool.{Bool, cond, _&&_}
 use mathlib.Core.List.{List, [], _∷_, _++_}
 use lib.ListN.{getD, replicate}
@@ -99,6 +99,13 @@ contextAnswer l = first (stateAnswer (stateByteIn l)) (typeAnswer (typeByteIn l)
 -- both bytes are in range
 unfoldable pub isGood : List ℕ → Bool
 isGood l = ltb (stateByteIn l) 3 && ltb (typeByteIn l) 2
+
+-- both bytes as one word, with one state more; a word whose type is below 2, and which has less than four states
+abbrev pub kindWord : List ℕ → ℕ
+kindWord l = typeByteIn l + 256 * stateByteIn l + 256
+
+unfoldable pub goodWord : ℕ → Bool
+goodWord w = ltb (w % 256) 2 && ltb w 1024
 
 -- ---- written: field after field
 

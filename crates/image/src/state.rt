@@ -36,16 +36,16 @@ pub struct StateRead {
     pub state: State,
 }
 
-// Whether every slot is good. All are looked at, in one pass with no branch.
+// Whether every slot is good: their words are joined in one pass with no branch, and looked at together.
 fn are_good(image: &[u8]) -> bool
     requires { ⌜ length (now image) ≡ stateSize ⌝ }
     ensures { λ r. ⌜ r ≡ every (goodSlot (now (image .entry))) slotCount ⌝ }
 {
-    let mut good = true;
+    let mut kinds: u32 = 0;
     for i in 0..MAX_HANDLES {
-        good = good & context::is_good_at(image, CONTEXTS_AT + context::SIZE * i);
+        kinds = kinds | context::kind_at(image, CONTEXTS_AT + context::SIZE * i);
     }
-    good
+    context::are_good_kinds(kinds)
 }
 
 // Whether the image reads. `readable` says why one does not.
