@@ -11,6 +11,9 @@
  *  - what is written (`image` where it is not const, `new_handle`, `slots` and the numbers) overlaps nothing
  *    else that is passed to the same call.
  *
+ * A call works where the image lies and keeps no copy of it. The most stack that was measured is 5,592 bytes, in
+ * dpe_validate; docs/SPEED.md has the time and the stack of each call.
+ *
  * Refusals, first one first. Every call begins with the reading refusals:
  *    0x04000000, 1  BadLength: image_len is not 4,624
  *    0x03000000, 4  BadContextState: a slot's state byte is above 2 (slots upward, state byte before type byte)
