@@ -1,4 +1,4 @@
-//! A stand-in: every byte is looked at, and the optimiser is kept from the result in a register, as the real one does it.
+//! A stand-in: every byte is looked at, and the result goes through a register that the optimiser cannot see into.
 use core::arch::asm;
 
 #[inline]
