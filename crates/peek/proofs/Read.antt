@@ -31,12 +31,6 @@ module _ (l : List ℕ) (i : ℕ) (h : i < slotCount) where
       sym (part-part (contextsAt + contextSize * i) contextSize 0 handleSize l (omega arith))
       ∙ sym (ap (λ (c : Context). c .handle) (state-slot l i h))
 
-  pub children-is : le (part (contextsAt + contextSize * i + 124) 8 l) ≡ slotOf (decodeState l .contexts) i .children
-  unfolding decodeContext
-  children-is =
-      ap le (sym (part-part (contextsAt + contextSize * i) contextSize 124 8 l (omega arith)))
-      ∙ sym (ap (λ (c : Context). c .children) (state-slot l i h))
-
   -- the slot is in the state that b says just where b is its state byte
   pub in-state : readableOf l ≡ Done → (b : ℕ) → b < 3 → inState (slotOf (decodeState l .contexts)) (stateOf b) i ≡ eqb (getD l (contextsAt + contextSize * i + 138) 0) b
   unfolding decodeContext

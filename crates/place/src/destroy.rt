@@ -3,8 +3,6 @@ use crate::put;
 use children::Answer;
 use children::MAX_HANDLES;
 use error::Outcome;
-use image::context;
-use image::state;
 use peek::down;
 use peek::find;
 use peek::slot;
@@ -32,8 +30,7 @@ fn clear_slot(image: &mut [u8], slot: usize, set: u64)
         put::put_context(image, slot, c.destroy());
         return;
     }
-    let at = state::CONTEXTS_AT + context::SIZE * slot + context::CHILDREN_AT;
-    let kids = wire::read_u64(image, at);
+    let kids = slot::children_at(image, slot);
     put::put_children(image, slot, children::remove_children(kids, set));
 }
 

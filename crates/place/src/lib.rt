@@ -1,4 +1,4 @@
-// The calls that change a table, on a lent image, where it lies: only bytes of the slots that change are written, and none for a refusal.
+// The calls that change a table, on a lent image, where it lies: no table is built, and a refusal writes nothing.
 // Each function has the name of the one by value, which says what it means. Added; the Rust has no image.
 pub mod destroy;
 pub mod initialize;

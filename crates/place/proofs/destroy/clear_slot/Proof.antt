@@ -1,7 +1,6 @@
 -- `place::destroy::clear_slot` meets its contract. Assumes nothing.
 use mathlib.Core.Path.{sym, ap, _∙_}
 use Prim.Native.Nat.{ℕ}
-use native.Mathlib.Omega.{arith}
 use denote.Ref.{now}
 use Rattle.children.specs.Marks.{slotCount, without}
 use Rattle.table.specs.Context.{slotOf, destroyed, withChildren}
@@ -9,7 +8,6 @@ use Rattle.table.specs.State.{withSlot}
 use Rattle.image.specs.State.{decodeState}
 use Rattle.image.proofs.Reading.{readable-size}
 use Rattle.walks.proofs.Down.{seen}
-use Rattle.peek.proofs.Read.{children-is}
 use Rattle.place.proofs.After.{cleared-in, cleared-out}
 use borrow.Author.Needs.{needs}
 use Rattle.place.proofs.destroy.clear_slot.Statement.{statement}
@@ -40,20 +38,10 @@ returns c =
     let set = seen slotCount _ _ (s .pre .1) (c .before .before .before .before .before .before .before .before .has-child .ensures) (c .before .before .before .before .before .before .before .if1 .taken) in
     (e .0, e .1 ∙ ap (withSlot (decodeState l) (s .args .slot)) (c .before .before .before .destroy .ensures ∙ ap destroyed (c .before .before .before .before .before .context-at .ensures) ∙ sym (cleared-in _ _ _ set)))
 
-mul-at : tie.Need-mul-at
-mul-at c = search needs
-
-add-at : tie.Need-add-at
-add-at c = search needs
-
-add-at-2 : tie.Need-add-at-2
-add-at-2 c = search needs
-
-read-u64-requires : tie.Need-read-u64-requires
-read-u64-requires c κs =
+children-at-requires : tie.Need-children-at-requires
+children-at-requires c κs =
     let s = c .before .before .before .before in
-    let n = readable-size (now (s .args .image)) (s .pre .0) in
-    omega arith
+    (readable-size (now (s .args .image)) (s .pre .0), s .pre .1)
 
 remove-children-requires : tie.Need-remove-children-requires
 remove-children-requires c κs = search needs
@@ -70,7 +58,7 @@ returns-2 c =
     let l = now (s .args .image) in
     let e = c .before .before .put-children .ensures in
     let clear = seen slotCount _ _ (s .pre .1) (c .before .before .before .before .before .before .before .before .has-child .ensures) (c .before .before .before .before .before .before .before .if1 .left) in
-    let kids = c .before .before .before .remove-children .ensures ∙ ap (λ (m : ℕ). without m (s .args .set)) (c .before .before .before .before .before .read-u64 .ensures ∙ children-is l (s .args .slot) (s .pre .1)) in (
+    let kids = c .before .before .before .remove-children .ensures ∙ ap (λ (m : ℕ). without m (s .args .set)) (c .before .before .before .before .before .children-at .ensures) in (
       e .0,
       e .1 ∙ ap (λ (m : ℕ). withSlot (decodeState l) (s .args .slot) (withChildren (slotOf (decodeState l .contexts) (s .args .slot)) m)) kids
           ∙ ap (withSlot (decodeState l) (s .args .slot)) (sym (cleared-out _ _ _ clear)),
@@ -86,10 +74,7 @@ clear-slot-spec =
     put-context-requires
     same-length
     returns
-    mul-at
-    add-at
-    add-at-2
-    read-u64-requires
+    children-at-requires
     remove-children-requires
     put-children-requires
     same-length-2
