@@ -1,5 +1,5 @@
 -- The laws of marks, for any slot below 64 and any number of slots up to 64. Assumes nothing.
-use mathlib.Core.Bool.{Bool, true, false, cond, not, _&&_, _||_, or-false}
+use mathlib.Core.Bool.{Bool, true, false, cond, not, _&&_, _||_, or-assoc, or-false}
 use mathlib.Core.Path.{_≡_, refl, sym, ap, ap₂, _∙_, subst}
 use mathlib.Core.Logic.{_⊎_, inl, inr}
 use Prim.Native.Nat.{ℕ, zero, suc, _+_, _-_, _*_, _/_, _%_, _^_, _≤_, _<_, zero-le, suc-le-suc}
@@ -156,6 +156,22 @@ same-marks (suc n) a b ha hb f =
     let high : a / 2 ≡ b / 2 = same-marks n (a / 2) (b / 2) (half-lt a n ha) (half-lt b n hb)
     (λ k h. sym (marked-suc a k) ∙ f (suc k) (suc-le-suc h) ∙ marked-suc b k) in
     omega (arith, div-add-mod' a 2, div-add-mod' b 2)
+
+-- marks joined twice are the same, whichever two come first
+below-power : (n : ℕ) → n < 2 ^ n
+below-power zero = zero-lt-suc 0
+below-power (suc n) = let h = below-power n in let e = pow-suc 2 n in omega arith
+
+pub joined-assoc : (a b c : ℕ) → joined (joined a b) c ≡ joined a (joined b c)
+joined-assoc a b c =
+    let n = a + b + c in
+    let ha : a < 2 ^ n = lt-of-lt-of-le (below-power a) (pow-mono (omega arith)) in
+    let hb : b < 2 ^ n = lt-of-lt-of-le (below-power b) (pow-mono (omega arith)) in
+    let hc : c < 2 ^ n = lt-of-lt-of-le (below-power c) (pow-mono (omega arith)) in
+    same-marks n (joined (joined a b) c) (joined a (joined b c))
+    (joined-word n (joined a b) c (joined-word n a b ha hb) hc) (joined-word n a (joined b c) ha (joined-word n b c hb hc))
+    (λ k h. marked-joined (joined a b) c k ∙ ap (λ (x : Bool). x || marked c k) (marked-joined a b k) ∙ or-assoc (marked a k) (marked b k) (marked c k)
+    ∙ sym (marked-joined a (joined b c) k ∙ ap (λ (x : Bool). marked a k || x) (marked-joined b c k)))
 
 -- a word has no mark from its width up
 pub marked-high : (n m k : ℕ) → m < 2 ^ n → n ≤ k → marked m k ≡ false

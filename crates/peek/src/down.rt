@@ -17,32 +17,46 @@ ghost use Rattle.links.specs.Summary.{liveAt, kidsAt};
 ghost use Rattle.walks.specs.Walks.{toldOf, descendantsIn};
 
 // The stored marks of a slot, joined with the descendants of each child. `path` marks the slots on the way down to it; `depth` is how many more may come.
+// The last child of a slot takes its place, so that only a child with another after it is a call.
 pub fn descend(image: &[u8], path: u64, slot: usize, depth: usize) -> Answer
     requires { ⌜ (length (now image) ≡ stateSize) × (slot < slotCount) ⌝ }
     ensures { λ r. ⌜ r ≡ toldOf InvalidHandle (walkDown slotCount (liveAt (slotOf (decodeState (now (image .entry)) .contexts))) (kidsAt (slotOf (decodeState (now (image .entry)) .contexts))) depth path slot) ⌝ }
 {
-    if depth == 0 {
-        return Answer::Refused(DpeErrorCode::Added(AddedErrorCode::WalkLoops));
-    }
-    if !slot::is_live(image, slot) {
-        return Answer::Refused(DpeErrorCode::InvalidHandle);
-    }
-    let down = children::with(path, slot);
-    let kids = slot::children_at(image, slot);
-    let mut found = kids;
-    let mut k = children::next(kids, 0);
-    while k < MAX_HANDLES {
+    let mut found = children::empty();
+    let mut down = path;
+    let mut at = slot;
+    let mut left = depth;
+    while left != 0 {
+        if !slot::is_live(image, at) {
+            return Answer::Refused(DpeErrorCode::InvalidHandle);
+        }
+        down = children::with(down, at);
+        left -= 1;
+        let kids = slot::children_at(image, at);
+        found = children::add_children(found, kids);
+        let mut k = children::next(kids, 0);
+        if k >= MAX_HANDLES {
+            return Answer::Marks(found);
+        }
+        let mut after = children::next(kids, k + 1);
+        while after < MAX_HANDLES {
+            if children::has_child(down, k) {
+                return Answer::Refused(DpeErrorCode::Added(AddedErrorCode::WalkLoops));
+            }
+            let w = descend(image, down, k, left);
+            let Answer::Marks(m) = w else {
+                return w;
+            };
+            found = children::add_children(found, m);
+            k = after;
+            after = children::next(kids, k + 1);
+        }
         if children::has_child(down, k) {
             return Answer::Refused(DpeErrorCode::Added(AddedErrorCode::WalkLoops));
         }
-        let w = descend(image, down, k, depth - 1);
-        let Answer::Marks(m) = w else {
-            return w;
-        };
-        found = children::add_children(found, m);
-        k = children::next(kids, k + 1);
+        at = k;
     }
-    Answer::Marks(found)
+    Answer::Refused(DpeErrorCode::Added(AddedErrorCode::WalkLoops))
 }
 
 // The descendants of a slot, as marks.

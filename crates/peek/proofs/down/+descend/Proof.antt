@@ -1,27 +1,29 @@
--- `peek::down::descend` meets its contract. The loop's invariant: the children below k are done, and k is a child or the end. The measure of the
--- calls is the depth. Assumes nothing.
-use mathlib.Core.Bool.{Bool, true, false}
+-- `peek::down::descend` meets its contract. Both loops keep that the marks found, with what is left to walk, are the whole walk's answer. The measure of
+-- the calls is the depth. Assumes nothing.
+use mathlib.Core.Bool.{true}
 use mathlib.Core.List.{List}
-use mathlib.Core.Path.{_≡_, refl, sym, ap, _∙_}
-use Prim.Native.Nat.{ℕ, _<_, _-_, _+_}
+use mathlib.Core.Path.{_≡_, sym, ap, _∙_}
+use Prim.Native.Nat.{ℕ, _<_, _≤_, _-_, _+_}
 use native.Mathlib.Omega.{arith}
 use borrow.Author.Needs.{needs}
 use borrow.Fn.Kinds.{In}
 use borrow.Fn.PlainCycle.{Measures, is, falls, and}
 use denote.Ref.{now}
 use Rattle.error.specs.declared.DpeErrorCode.the-variants.{InvalidHandle}
-use Rattle.children.specs.Marks.{slotCount, marked}
+use Rattle.children.specs.Marks.{slotCount, marked, nextBelow}
 use Rattle.children.proofs.Cases.{not-true, not-false}
 use Rattle.table.specs.Context.{slotOf}
 use Rattle.image.specs.State.{decodeState}
-use Rattle.forest.specs.Walk.{Answer, loops, ok, over, walkDown}
+use Rattle.forest.specs.Walk.{Answer, ok, both, walkDown}
 use Rattle.links.specs.Summary.{liveAt, kidsAt}
 use Rattle.walks.specs.Walks.{toldOf}
-use Rattle.walks.proofs.Down.{seen, child, Turn, turn-on, next-after, told-marks, over-joined, over-loops, over-refused, walk-spent, walk-inactive, walk-over}
+use Rattle.walks.proofs.Down.{seen, child, next-after, told-marks, walk-spent, walk-inactive}
+use Rattle.peek.proofs.Rest.{begins, rest, next-marked, rest-on, rest-none, rest-last, refused-on, on-path, off-path, rest-begins}
 use Rattle.peek.proofs.down.descend.Reads as descend
 use Rattle.peek.proofs.down.descend.Kinds as descend-kinds
 use Rattle.peek.proofs.down.+descend.Lts-descend as descend-lts
 use Rattle.children.proofs.add_children.Reads as add-children-reads
+use Rattle.children.proofs.empty.Reads as empty-reads
 use Rattle.children.proofs.has_child.Reads as has-child-reads
 use Rattle.children.proofs.next.Reads as next-reads
 use Rattle.children.proofs.with.Reads as with-reads
@@ -40,156 +42,215 @@ abbrev descend-below : ℕ → In 1 descend-kinds.ps
 descend-below t = and 1 descend-kinds.ps (falls 1 descend-kinds.ps _<_ μ-descend t) descend.Pre
 
 abbrev calls : ℕ → descend-lts.Claims
-calls t = (is-live-reads.Asked, is-live-reads.Learnt, with-reads.Asked, with-reads.Learnt, children-at-reads.Asked, children-at-reads.Learnt, next-reads.Asked, next-reads.Learnt, has-child-reads.Asked, has-child-reads.Learnt, descend-below t, descend.Post, add-children-reads.Asked, add-children-reads.Learnt)
+calls t = (empty-reads.Asked, empty-reads.Learnt, is-live-reads.Asked, is-live-reads.Learnt, with-reads.Asked, with-reads.Learnt, children-at-reads.Asked, children-at-reads.Learnt, add-children-reads.Asked, add-children-reads.Learnt, next-reads.Asked, next-reads.Learnt, has-child-reads.Asked, has-child-reads.Learnt, descend-below t, descend.Post)
 
--- how the walk answers for a child, over the slots of an image
+-- the walk from a slot of an image, and how it answers for a child
+abbrev walk : List ℕ → ℕ → ℕ → ℕ → Answer
+walk image = walkDown slotCount (liveAt (slotOf (decodeState image .contexts))) (kidsAt (slotOf (decodeState image .contexts)))
+
 abbrev below : List ℕ → ℕ → ℕ → ℕ → Answer
 below image = child slotCount (liveAt (slotOf (decodeState image .contexts))) (kidsAt (slotOf (decodeState image .contexts)))
 
-abbrev descend-Inv-loop : descend-lts.InvT-loop
-descend-Inv-loop image path slot depth down kids found₀ k₀ found k = Turn (below image (depth - 1) down) kids slotCount found k
+-- the marks found, with the rest of the children from k on, are the whole walk's answer
+abbrev inv2 : descend-lts.InvT-loop2
+inv2 image path slot depth found₀ down at left kids k₀ after₀ found k after =
+    (k < slotCount) × (marked kids k ≡ true) × (after ≡ nextBelow slotCount kids (k + 1))
+    × (both (ok found) (rest (below image left down) kids (slotCount - k) k) ≡ walk image depth path slot)
 
-abbrev descend-μ-loop : descend-lts.MeasureT-loop
-descend-μ-loop image path slot depth down kids found₀ k₀ found k = slotCount - k
+abbrev μ2 : descend-lts.MeasureT-loop2
+μ2 image path slot depth found₀ down at left kids k₀ after₀ found k after = slotCount - k
 
--- a child that is on the path, and one that is not
-on-path : (n d : ℕ) (live : ℕ → Bool) (kids : ℕ → ℕ) (down k : ℕ) → marked down k ≡ true → child n live kids d down k ≡ loops
-on-path n d live kids down k e = rw e
+-- the marks found, with the walk from the slot that has taken the first one's place, are the whole walk's answer
+abbrev inv1 : descend-lts.InvT-loop
+inv1 image path slot depth found₀ down₀ at₀ left₀ found down at left =
+    (left ≤ depth) × (at < slotCount) × (both (ok found) (walk image left down at) ≡ walk image depth path slot)
 
-off-path : (n d : ℕ) (live : ℕ → Bool) (kids : ℕ → ℕ) (down k : ℕ) → marked down k ≡ false → child n live kids d down k ≡ walkDown n live kids d down k
-off-path n d live kids down k e = rw e
+abbrev μ1 : descend-lts.MeasureT-loop
+μ1 image path slot depth found₀ down₀ at₀ left₀ found down at left = left
 
--- past the tests, the walk is the one over the children
-past : (t : ℕ) (c : descend-lts.After-children-at (calls t) (descend-at t) descend.Post descend-Inv-loop descend-μ-loop)
-    → let a = c .before .before .before .before .before .before .args in
-    let s = slotOf (decodeState (now (a .image)) .contexts) in
-    walkDown slotCount (liveAt s) (kidsAt s) (a .depth) (a .path) (a .slot)
-    ≡ over (below (now (a .image)) (a .depth - 1) (c .before .with .result)) (c .children-at .result) slotCount
-past t c =
-    let a = c .before .before .before .before .before .before .args in
-    let w = c .before in
-    let b = below (now (a .image)) (a .depth - 1) (w .with .result) in
-    walk-over slotCount (a .depth) _ _ _ _ (w .with .result) (w .with .ensures) (w .before .before .before .if1 .left)
-    (sym (w .before .before .is-live .ensures) ∙ not-false _ (w .before .if2 .left))
-    ∙ ap (λ (m : ℕ). over b m slotCount) (sym (c .children-at .ensures))
+descend-empty-requires : (t : ℕ) → descend-lts.Need-empty-requires (calls t) (descend-at t) descend.Post inv2 μ2 inv1 μ1
+descend-empty-requires t c κs = search needs
 
-descend-returns : (t : ℕ) → descend-lts.Need-returns (calls t) (descend-at t) descend.Post descend-Inv-loop descend-μ-loop
+descend-loop-holds : (t : ℕ) → descend-lts.Need-loop-holds (calls t) (descend-at t) descend.Post inv2 μ2 inv1 μ1
+descend-loop-holds t c = let s = c .before .before in (omega arith, s .pre .1 .1, begins _ _ (c .empty .ensures))
+
+descend-is-live-requires : (t : ℕ) → descend-lts.Need-is-live-requires (calls t) (descend-at t) descend.Post inv2 μ2 inv1 μ1
+descend-is-live-requires t c κs = (c .before .before .before .before .pre .1 .0, c .before .loop .inv .1)
+
+descend-returns : (t : ℕ) → descend-lts.Need-returns (calls t) (descend-at t) descend.Post inv2 μ2 inv1 μ1
 unfolding toldOf
-descend-returns t c = sym (ap (toldOf InvalidHandle) (walk-spent _ _ _ _ _ _ (c .if1 .taken)))
+descend-returns t c =
+    let l = c .before .before .before .loop in
+    sym (ap (toldOf InvalidHandle) (sym (l .inv .2) ∙ ap (both (ok (l .found))) (walk-inactive _ _ _ _ _ _ (c .before .before .loop-test .taken)
+    (sym (c .before .is-live .ensures) ∙ not-true _ (c .if1 .taken)))))
 
-descend-is-live-requires : (t : ℕ) → descend-lts.Need-is-live-requires (calls t) (descend-at t) descend.Post descend-Inv-loop descend-μ-loop
-descend-is-live-requires t c κs = search needs
+descend-with-requires : (t : ℕ) → descend-lts.Need-with-requires (calls t) (descend-at t) descend.Post inv2 μ2 inv1 μ1
+descend-with-requires t c κs = let h = c .before .before .before .loop .inv .1 in omega arith
 
-descend-returns-2 : (t : ℕ) → descend-lts.Need-returns-2 (calls t) (descend-at t) descend.Post descend-Inv-loop descend-μ-loop
-unfolding toldOf
-descend-returns-2 t c =
-    sym (ap (toldOf InvalidHandle) (walk-inactive _ _ _ _ _ _ (c .before .before .if1 .left)
-    (sym (c .before .is-live .ensures) ∙ not-true _ (c .if2 .taken))))
+descend-sub-left : (t : ℕ) → descend-lts.Need-sub-left (calls t) (descend-at t) descend.Post inv2 μ2 inv1 μ1
+descend-sub-left t c = let h = c .before .before .before .loop-test .taken in omega arith
 
-descend-with-requires : (t : ℕ) → descend-lts.Need-with-requires (calls t) (descend-at t) descend.Post descend-Inv-loop descend-μ-loop
-descend-with-requires t c κs = omega arith
+descend-children-at-requires : (t : ℕ) → descend-lts.Need-children-at-requires (calls t) (descend-at t) descend.Post inv2 μ2 inv1 μ1
+descend-children-at-requires t c κs = (c .before .before .before .before .before .before .before .pre .1 .0, c .before .before .before .before .loop .inv .1)
 
-descend-children-at-requires : (t : ℕ) → descend-lts.Need-children-at-requires (calls t) (descend-at t) descend.Post descend-Inv-loop descend-μ-loop
-descend-children-at-requires t c κs = search needs
-
-descend-next-requires : (t : ℕ) → descend-lts.Need-next-requires (calls t) (descend-at t) descend.Post descend-Inv-loop descend-μ-loop
-descend-next-requires t c κs = search needs
-
-descend-loop-holds : (t : ℕ) → descend-lts.Need-loop-holds (calls t) (descend-at t) descend.Post descend-Inv-loop descend-μ-loop
-unfolding over
-descend-loop-holds t c = turn-on _ _ slotCount 0 _ _ (omega arith) refl (c .next .ensures)
-
-descend-has-child-requires : (t : ℕ) → descend-lts.Need-has-child-requires (calls t) (descend-at t) descend.Post descend-Inv-loop descend-μ-loop
-descend-has-child-requires t c κs = search needs
-
-descend-returns-3 : (t : ℕ) → descend-lts.Need-returns-3 (calls t) (descend-at t) descend.Post descend-Inv-loop descend-μ-loop
-unfolding toldOf
-descend-returns-3 t c =
-    let l = c .before .before .before in
-    let lt = c .before .before .loop-test .taken in
-    sym (ap (toldOf InvalidHandle) (past t (l .before .before) ∙ over-loops _ _ (l .loop .k) slotCount (l .loop .found) lt (l .loop .inv .1) (l .loop .inv .2 lt)
-    (on-path _ _ _ _ _ _ (seen slotCount _ _ lt (c .before .has-child .ensures) (c .if3 .taken)))))
-
-descend-sub-descend : (t : ℕ) → descend-lts.Need-sub-descend (calls t) (descend-at t) descend.Post descend-Inv-loop descend-μ-loop
-descend-sub-descend t c = omega arith
-
-descend-descend-requires : (t : ℕ) → descend-lts.Need-descend-requires (calls t) (descend-at t) descend.Post descend-Inv-loop descend-μ-loop
-descend-descend-requires t c κs =
-    let s = c .before .before .before .before .before .before .before .before .before .before .before in
-    (omega arith, (s .pre .1 .0, omega arith))
-
-descend-enum-known-w : (t : ℕ) → descend-lts.Need-enum-known-w (calls t) (descend-at t) descend.Post descend-Inv-loop descend-μ-loop
-descend-enum-known-w t c = search needs
-
-descend-enum-told : (t : ℕ) → descend-lts.Need-enum-told (calls t) (descend-at t) descend.Post descend-Inv-loop descend-μ-loop
-descend-enum-told t c = search needs
-
-descend-returns-4 : (t : ℕ) → descend-lts.Need-returns-4 (calls t) (descend-at t) descend.Post descend-Inv-loop descend-μ-loop
-descend-returns-4 t c =
-    let l = c .before .before .before .before .before .before in
-    let lt = c .before .before .before .before .before .loop-test .taken in
-    c .enum-told .given .1
-    ∙ sym (ap (toldOf InvalidHandle) (past t (l .before .before)) ∙ over-refused _ _ InvalidHandle (c .enum-told .given .0 .0) (l .loop .k) slotCount (l .loop .found) lt (l .loop .inv .1) (l .loop .inv .2 lt)
-    (ap (toldOf InvalidHandle) (off-path _ _ _ _ _ _ (seen slotCount _ _ lt (c .before .before .before .before .has-child .ensures) (c .before .before .before .if3 .left)))
-    ∙ sym (c .before .before .descend .ensures) ∙ c .enum-told .given .1))
-
-descend-add-children-requires : (t : ℕ) → descend-lts.Need-add-children-requires (calls t) (descend-at t) descend.Post descend-Inv-loop descend-μ-loop
+descend-add-children-requires : (t : ℕ) → descend-lts.Need-add-children-requires (calls t) (descend-at t) descend.Post inv2 μ2 inv1 μ1
 descend-add-children-requires t c κs = search needs
 
-descend-add-next : (t : ℕ) → descend-lts.Need-add-next (calls t) (descend-at t) descend.Post descend-Inv-loop descend-μ-loop
-descend-add-next t c = omega arith
+descend-next-requires : (t : ℕ) → descend-lts.Need-next-requires (calls t) (descend-at t) descend.Post inv2 μ2 inv1 μ1
+descend-next-requires t c κs = search needs
 
-descend-next-requires-2 : (t : ℕ) → descend-lts.Need-next-requires-2 (calls t) (descend-at t) descend.Post descend-Inv-loop descend-μ-loop
+-- past the tests of a slot, the marks found and the rest from its first child on are the whole walk's answer
+begun : (t : ℕ) (c : descend-lts.After-next (calls t) (descend-at t) descend.Post inv2 μ2 inv1 μ1)
+    → let a = c .before .before .before .before .before .before .before .before .before .before .args in
+    both (ok (c .before .add-children .result))
+    (rest (below (now (a .image)) (c .before .before .before .before .before .before .before .loop .left - 1) (c .before .before .before .with .result)) (c .before .before .children-at .result) (slotCount - c .next .result) (c .next .result))
+    ≡ walk (now (a .image)) (a .depth) (a .path) (a .slot)
+begun t c =
+    let l = c .before .before .before .before .before .before .before .loop in
+    sym (rest-begins slotCount (l .left) _ _ (l .down) (l .at) _ _ (l .found) _ _ (c .before .before .before .with .ensures) (c .before .before .before .before .before .before .loop-test .taken)
+    (sym (c .before .before .before .before .before .is-live .ensures) ∙ not-false _ (c .before .before .before .before .if1 .left)) (c .before .before .children-at .ensures) (c .before .add-children .ensures) (c .next .ensures))
+    ∙ l .inv .2
+
+descend-returns-2 : (t : ℕ) → descend-lts.Need-returns-2 (calls t) (descend-at t) descend.Post inv2 μ2 inv1 μ1
+unfolding toldOf
+descend-returns-2 t c = sym (ap (toldOf InvalidHandle) (sym (begun t (c .before)) ∙ rest-none _ _ slotCount _ _ (c .if2 .taken)))
+
+descend-add-next : (t : ℕ) → descend-lts.Need-add-next (calls t) (descend-at t) descend.Post inv2 μ2 inv1 μ1
+descend-add-next t c = let h = c .if2 .left in omega arith
+
+descend-next-requires-2 : (t : ℕ) → descend-lts.Need-next-requires-2 (calls t) (descend-at t) descend.Post inv2 μ2 inv1 μ1
 descend-next-requires-2 t c κs = search needs
 
-descend-loop-less : (t : ℕ) → descend-lts.Need-loop-less (calls t) (descend-at t) descend.Post descend-Inv-loop descend-μ-loop
-descend-loop-less t c =
-    let lt = c .before .before .before .before .before .before .before .before .loop-test .taken in
-    let h = next-after _ _ _ (c .next2 .ensures) in
+descend-loop2-holds : (t : ℕ) → descend-lts.Need-loop2-holds (calls t) (descend-at t) descend.Post inv2 μ2 inv1 μ1
+descend-loop2-holds t c =
+    let k : c .before .before .next .result < slotCount = let h = c .before .if2 .left in omega arith in
+    (k, next-marked slotCount _ 0 _ (omega arith) (c .before .before .next .ensures) k, c .next2 .ensures, begun t (c .before .before))
+
+descend-has-child-requires : (t : ℕ) → descend-lts.Need-has-child-requires (calls t) (descend-at t) descend.Post inv2 μ2 inv1 μ1
+descend-has-child-requires t c κs = search needs
+
+descend-returns-3 : (t : ℕ) → descend-lts.Need-returns-3 (calls t) (descend-at t) descend.Post inv2 μ2 inv1 μ1
+unfolding toldOf
+descend-returns-3 t c =
+    let l = c .before .before .before .loop2 in
+    let a = c .before .before .before .before .before .before .before .before .before .before .before .before .before .before .before .before .args in
+    let slots = slotOf (decodeState (now (a .image)) .contexts) in
+    let on = on-path slotCount (c .before .before .before .before .before .before .before .before .before .before .before .before .before .loop .left - 1) (liveAt slots) (kidsAt slots) _ _ (seen slotCount _ _ (l .inv .0) (c .before .has-child .ensures) (c .if3 .taken)) in
+    sym (ap (toldOf InvalidHandle) (sym (l .inv .3) ∙ rest-on _ _ slotCount (l .k) (l .after) (l .found) (l .inv .0) (l .inv .1) (l .inv .2))
+    ∙ refused-on InvalidHandle _ (l .found) (below (now (a .image)) (c .before .before .before .before .before .before .before .before .before .before .before .before .before .loop .left - 1) (c .before .before .before .before .before .before .before .before .before .with .result) (l .k)) _ (ap (toldOf InvalidHandle) on))
+
+descend-descend-requires : (t : ℕ) → descend-lts.Need-descend-requires (calls t) (descend-at t) descend.Post inv2 μ2 inv1 μ1
+descend-descend-requires t c κs =
+    let h = c .before .before .before .before .before .before .before .before .before .before .before .before .before .loop .inv .0 in
+    let z = c .before .before .before .before .before .before .before .before .before .before .before .before .loop-test .taken in
+    (omega arith, (c .before .before .before .before .before .before .before .before .before .before .before .before .before .before .before .before .pre .1 .0, c .before .before .before .loop2 .inv .0))
+
+descend-enum-known-w : (t : ℕ) → descend-lts.Need-enum-known-w (calls t) (descend-at t) descend.Post inv2 μ2 inv1 μ1
+descend-enum-known-w t c = search needs
+
+descend-enum-told : (t : ℕ) → descend-lts.Need-enum-told (calls t) (descend-at t) descend.Post inv2 μ2 inv1 μ1
+descend-enum-told t c = search needs
+
+descend-returns-4 : (t : ℕ) → descend-lts.Need-returns-4 (calls t) (descend-at t) descend.Post inv2 μ2 inv1 μ1
+descend-returns-4 t c =
+    let l = c .before .before .before .before .before .before .loop2 in
+    let off = off-path _ _ _ _ _ _ (seen slotCount _ _ (l .inv .0) (c .before .before .before .before .has-child .ensures) (c .before .before .before .if3 .left)) in
+    c .enum-told .given .1
+    ∙ sym (ap (toldOf InvalidHandle) (sym (l .inv .3) ∙ rest-on _ _ slotCount (l .k) (l .after) (l .found) (l .inv .0) (l .inv .1) (l .inv .2))
+    ∙ refused-on InvalidHandle (c .enum-told .given .0 .0) (l .found) _ _ (ap (toldOf InvalidHandle) off ∙ sym (c .before .before .descend .ensures) ∙ c .enum-told .given .1))
+
+descend-add-children-requires-2 : (t : ℕ) → descend-lts.Need-add-children-requires-2 (calls t) (descend-at t) descend.Post inv2 μ2 inv1 μ1
+descend-add-children-requires-2 t c κs = search needs
+
+descend-add-next-2 : (t : ℕ) → descend-lts.Need-add-next-2 (calls t) (descend-at t) descend.Post inv2 μ2 inv1 μ1
+descend-add-next-2 t c = let h = c .before .before .before .before .before .before .before .loop2-test .taken in omega arith
+
+descend-next-requires-3 : (t : ℕ) → descend-lts.Need-next-requires-3 (calls t) (descend-at t) descend.Post inv2 μ2 inv1 μ1
+descend-next-requires-3 t c κs = search needs
+
+descend-loop2-less : (t : ℕ) → descend-lts.Need-loop2-less (calls t) (descend-at t) descend.Post inv2 μ2 inv1 μ1
+descend-loop2-less t c =
+    let l = c .before .before .before .before .before .before .before .before .before .loop2 in
+    let h = next-after _ _ _ (l .inv .2) in
+    let z = c .before .before .before .before .before .before .before .before .loop2-test .taken in
     omega arith
 
-descend-loop-again : (t : ℕ) → descend-lts.Need-loop-again (calls t) (descend-at t) descend.Post descend-Inv-loop descend-μ-loop
-descend-loop-again t c =
-    let l = c .before .before .before .before .before .before .before .before .before in
-    let lt = c .before .before .before .before .before .before .before .before .loop-test .taken in
-    let off = off-path _ _ _ _ _ _ (seen slotCount _ _ lt (c .before .before .before .before .before .before .before .has-child .ensures) (c .before .before .before .before .before .before .if3 .left)) in
-    turn-on _ _ slotCount (l .loop .k + 1) _ _ (omega arith)
-    (over-joined _ _ (l .loop .k) (l .loop .found) _ (l .loop .inv .1) (l .loop .inv .2 lt)
-    (off ∙ told-marks InvalidHandle _ _ (sym (c .before .before .before .before .before .descend .ensures) ∙ c .before .before .before .w .given .1)) ∙ ap ok (sym (c .before .add-children .ensures)))
-    (c .next2 .ensures)
+descend-loop2-again : (t : ℕ) → descend-lts.Need-loop2-again (calls t) (descend-at t) descend.Post inv2 μ2 inv1 μ1
+descend-loop2-again t c =
+    let l = c .before .before .before .before .before .before .before .before .before .loop2 in
+    let a = c .before .before .before .before .before .before .before .before .before .before .before .before .before .before .before .before .before .before .before .before .before .before .args in
+    let r = rest (below (now (a .image)) (c .before .before .before .before .before .before .before .before .before .before .before .before .before .before .before .before .before .before .before .loop .left - 1) (c .before .before .before .before .before .before .before .before .before .before .before .before .before .before .before .with .result)) (c .before .before .before .before .before .before .before .before .before .before .before .before .before .before .children-at .result) (slotCount - l .after) (l .after) in
+    let z = c .before .before .before .before .before .before .before .before .loop2-test .taken in
+    let off = off-path _ _ _ _ _ _ (seen slotCount _ _ (l .inv .0) (c .before .before .before .before .before .before .before .has-child .ensures) (c .before .before .before .before .before .before .if3 .left)) in
+    let child-ok = off ∙ told-marks InvalidHandle _ _ (sym (c .before .before .before .before .before .descend .ensures) ∙ c .before .before .before .w .given .1) in (
+      z,
+      next-marked slotCount _ (l .k + 1) _ (let h = l .inv .0 in omega arith) (l .inv .2) z,
+      c .next3 .ensures,
+      ap (λ (x : ℕ). both (ok x) r) (c .before .add-children2 .ensures) ∙ sym (ap (λ (x : Answer). both (both (ok (l .found)) x) r) child-ok)
+          ∙ sym (rest-on _ _ slotCount (l .k) (l .after) (l .found) (l .inv .0) (l .inv .1) (l .inv .2)) ∙ l .inv .3,
+    )
 
-descend-returns-5 : (t : ℕ) → descend-lts.Need-returns-5 (calls t) (descend-at t) descend.Post descend-Inv-loop descend-μ-loop
+descend-has-child-requires-2 : (t : ℕ) → descend-lts.Need-has-child-requires-2 (calls t) (descend-at t) descend.Post inv2 μ2 inv1 μ1
+descend-has-child-requires-2 t c κs = search needs
+
+descend-returns-5 : (t : ℕ) → descend-lts.Need-returns-5 (calls t) (descend-at t) descend.Post inv2 μ2 inv1 μ1
 unfolding toldOf
 descend-returns-5 t c =
-    let l = c .before in
-    let p = l .before .before in
-    let a = p .before .before .before .before .before .before .args in
-    let e : slotCount ≡ l .loop .k = let q = l .loop .inv .0 in omega arith in
-    sym (ap (toldOf InvalidHandle) (past t p ∙ ap (over (below (now (a .image)) (a .depth - 1) (p .before .with .result)) (p .children-at .result)) e ∙ l .loop .inv .1))
+    let l = c .before .before .before .loop2 in
+    sym (ap (toldOf InvalidHandle) (sym (l .inv .3) ∙ rest-last _ _ slotCount (l .k) (l .after) (l .found) (l .inv .0) (l .inv .1) (l .inv .2) (c .before .before .loop2-test .left)
+    ∙ ap (both (ok (l .found))) (on-path _ _ _ _ _ _ (seen slotCount _ _ (l .inv .0) (c .before .has-child2 .ensures) (c .if4 .taken)))))
+
+descend-loop-less : (t : ℕ) → descend-lts.Need-loop-less (calls t) (descend-at t) descend.Post inv2 μ2 inv1 μ1
+descend-loop-less t c = let z = c .before .before .before .before .before .before .before .before .before .before .before .before .loop-test .taken in omega arith
+
+descend-loop-again : (t : ℕ) → descend-lts.Need-loop-again (calls t) (descend-at t) descend.Post inv2 μ2 inv1 μ1
+descend-loop-again t c =
+    let l = c .before .before .before .loop2 in
+    let h = c .before .before .before .before .before .before .before .before .before .before .before .before .before .loop .inv .0 in (
+      omega arith,
+      l .inv .0,
+      sym (ap (both (ok (l .found))) (off-path _ _ _ _ _ _ (seen slotCount _ _ (l .inv .0) (c .before .has-child2 .ensures) (c .if4 .left))))
+          ∙ sym (rest-last _ _ slotCount (l .k) (l .after) (l .found) (l .inv .0) (l .inv .1) (l .inv .2) (c .before .before .loop2-test .left)) ∙ l .inv .3,
+    )
+
+descend-returns-6 : (t : ℕ) → descend-lts.Need-returns-6 (calls t) (descend-at t) descend.Post inv2 μ2 inv1 μ1
+unfolding toldOf
+descend-returns-6 t c = let l = c .before .loop in sym (ap (toldOf InvalidHandle) (sym (l .inv .2) ∙ ap (both (ok (l .found))) (walk-spent _ _ _ _ _ _ (c .loop-test .left))))
 
 pub +descend-spec : {M : Type 1} → statement M
 +descend-spec = close μ-descend λ t. descend-lts.spec (calls t)
     (descend-at t)
     descend.Post
-    descend-Inv-loop
-    descend-μ-loop
-    (descend-returns t)
-    (descend-is-live-requires t)
-    (descend-returns-2 t)
-    (descend-with-requires t)
-    (descend-children-at-requires t)
-    (descend-next-requires t)
+    inv2
+    μ2
+    inv1
+    μ1
+    (descend-empty-requires t)
     (descend-loop-holds t)
+    (descend-is-live-requires t)
+    (descend-returns t)
+    (descend-with-requires t)
+    (descend-sub-left t)
+    (descend-children-at-requires t)
+    (descend-add-children-requires t)
+    (descend-next-requires t)
+    (descend-returns-2 t)
+    (descend-add-next t)
+    (descend-next-requires-2 t)
+    (descend-loop2-holds t)
     (descend-has-child-requires t)
     (descend-returns-3 t)
-    (descend-sub-descend t)
     (descend-descend-requires t)
     (descend-enum-known-w t)
     (descend-enum-told t)
     (descend-returns-4 t)
-    (descend-add-children-requires t)
-    (descend-add-next t)
-    (descend-next-requires-2 t)
+    (descend-add-children-requires-2 t)
+    (descend-add-next-2 t)
+    (descend-next-requires-3 t)
+    (descend-loop2-less t)
+    (descend-loop2-again t)
+    (descend-has-child-requires-2 t)
+    (descend-returns-5 t)
     (descend-loop-less t)
     (descend-loop-again t)
-    (descend-returns-5 t)
+    (descend-returns-6 t)
