@@ -14,9 +14,9 @@ use lib.Dec.{ltb, eqb, eqb·zero-suc, eqb·suc-zero, eqb·suc-suc}
 use lib.Pow.{pow-pos, pow-lt, pow-mono, shr-shr, mod-pow-add, mod-mod-pow, field}
 use borrow.Author.Tests.{eq-eqb, ne-eqb, lt-ltb, le-ltb}
 use Rattle.children.specs.Below.{count, lowestFrom}
-use Rattle.children.specs.Marks.{markCount, marked, hasBelow, with, joined, without, withIf, countBelow}
+use Rattle.children.specs.Marks.{markCount, marked, hasBelow, with, joined, without, withIf, countBelow, nextBelow}
 use Rattle.children.proofs.Cases.{two, clash, true-eqb, eqb-true}
-use Rattle.children.proofs.Below.{count-le, count-same, count-put}
+use Rattle.children.proofs.Below.{count-le, count-same, count-put, low-ge}
 
 two-pos : zero < 2
 two-pos = zero-lt-suc 1
@@ -202,6 +202,10 @@ pub has-not : (n m k : ℕ) → n ≤ k → hasBelow n m k ≡ false
 unfolding hasBelow
 has-not n m k h = ap (λ (x : Bool). x && marked m k) (le-ltb k n h)
 
+-- a mark below n that `has_child` answered for
+pub seen : (n m k : ℕ) {r b : Bool} → k < n → r ≡ hasBelow n m k → r ≡ b → marked m k ≡ b
+seen n m k h e f = sym (has-is n m k h) ∙ sym e ∙ f
+
 pub count-with : (n m k : ℕ) → k < n → marked m k ≡ false → countBelow n (with m k) ≡ suc (countBelow n m)
 count-with n m k h u =
     count-put (marked m) (marked (with m k)) k u (marked-with-own m k) (λ i ne. sym (marked-with-other m k i ne)) n h
@@ -273,6 +277,10 @@ next-out (suc g) (suc d) m k h l = elim (bit-of m k) [
       let r = next-out g d m (suc k) (omega arith) (omega arith) in
       rw (e .1) (omega arith)
 ]
+
+-- the next mark is no step back
+pub next-after : (n m k : ℕ) {r : ℕ} → r ≡ nextBelow n m k → k ≤ r
+next-after n m k e = let h = low-ge (marked m) (n - k) k in omega arith
 
 -- ---- a mask of one bit tests it
 

@@ -21,8 +21,8 @@ use Rattle.view.specs.declared.SlotFields.{SlotFields}
 use Rattle.view.specs.View.{fieldsOf}
 use Rattle.view.proofs.Fields.{state-fields}
 use Rattle.verdict.specs.Tests.{headerOf, contextOf}
-use Rattle.validation.specs.Summary.{linksOn}
-use Rattle.validation.specs.Summary as summary
+use Rattle.validation_slots.specs.Summary.{linksOn}
+use Rattle.validation_slots.specs.Summary as summary
 
 module _ (l : List ℕ) (i : ℕ) (h : i < slotCount) where
   pub handle-is : part (contextsAt + contextSize * i + 0) handleSize l ≡ slotOf (decodeState l .contexts) i .handle

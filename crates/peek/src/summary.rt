@@ -4,13 +4,13 @@ use children::MAX_HANDLES;
 use links::Links;
 use table::context;
 use table::handle;
-use validation::localities::Places;
+use validation_localities::Places;
 ghost use mathlib.Core.Path.{_≡_};
 ghost use lib.ListN.{length};
 ghost use Rattle.table.specs.Context.{slotOf};
 ghost use Rattle.image.specs.State.{stateSize, decodeState};
 ghost use Rattle.links.specs.Summary.{summaryOf};
-ghost use Rattle.validation.specs.Summary.{placesOf};
+ghost use Rattle.validation_localities.specs.Summary.{placesOf};
 
 // Who is below whom.
 pub fn links_of(image: &[u8]) -> Links

@@ -6,9 +6,6 @@ use error::ValidationError;
 use image::state;
 use table::state::MAGIC;
 use table::state::VERSION;
-use validation::localities;
-use validation::slots;
-use validation::trees;
 use verdict::Verdict;
 ghost use mathlib.Core.Path.{_≡_};
 ghost use lib.ListN.{length};
@@ -16,7 +13,7 @@ ghost use Rattle.children.specs.Marks.{slotCount};
 ghost use Rattle.table.specs.Context.{slotOf};
 ghost use Rattle.image.specs.State.{stateSize, decodeState};
 ghost use Rattle.verdict.specs.Tests.{headerOf, firstBelow, verdictOf};
-ghost use Rattle.validation.specs.Summary.{slotIn};
+ghost use Rattle.validation_slots.specs.Summary.{slotIn};
 
 // Each slot of the image, upward.
 fn slots_test(
@@ -32,7 +29,7 @@ fn slots_test(
     let init = image[state::HAS_INITIALIZED_AT];
     for i in 0..MAX_HANDLES {
         let c = slot::context_at(image, i);
-        let v = slots::context_test(c, support, init, children, parents, live, i);
+        let v = validation_slots::context_test(c, support, init, children, parents, live, i);
         let Verdict::Valid = v else {
             return v;
         };
@@ -60,9 +57,9 @@ pub fn validate_dpe(image: &[u8]) -> Verdict
     };
     let p = summary::places_of(image);
     let places = p.localities;
-    let w = localities::localities_test(&places, p.defaults, p.others);
+    let w = validation_localities::localities_test(&places, p.defaults, p.others);
     let Verdict::Valid = w else {
         return w;
     };
-    trees::trees_test(&children, &parents, l.live, l.simulations)
+    validation_trees::trees_test(&children, &parents, l.live, l.simulations)
 }

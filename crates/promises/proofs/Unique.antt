@@ -93,11 +93,11 @@ use Rattle.image.proofs.state.read_state.Reads as image-state-read-state-reads
 use Rattle.image.proofs.state.write_state.Reads as image-state-write-state-reads
 use Rattle.validation.proofs.validate_dpe.Reads as validation-validate-dpe-reads
 use Rattle.validation.proofs.outcome.Reads as validation-outcome-reads
-use Rattle.validation.proofs.localities.places_of.Reads as validation-localities-places-of-reads
-use Rattle.validation.proofs.localities.localities_test.Reads as validation-localities-localities-test-reads
-use Rattle.validation.proofs.slots.context_test.Reads as validation-slots-context-test-reads
-use Rattle.validation.proofs.slots.slots_test.Reads as validation-slots-slots-test-reads
-use Rattle.validation.proofs.trees.trees_test.Reads as validation-trees-trees-test-reads
+use Rattle.validation_localities.proofs.places_of.Reads as validation-localities-places-of-reads
+use Rattle.validation_localities.proofs.localities_test.Reads as validation-localities-localities-test-reads
+use Rattle.validation_slots.proofs.context_test.Reads as validation-slots-context-test-reads
+use Rattle.validation_slots.proofs.slots_test.Reads as validation-slots-slots-test-reads
+use Rattle.validation_trees.proofs.trees_test.Reads as validation-trees-trees-test-reads
 use Rattle.destroy_context.proofs.cleared_slot.Reads as destroy-context-cleared-slot-reads
 use Rattle.destroy_context.proofs.cleared.Reads as destroy-context-cleared-reads
 use Rattle.destroy_context.proofs.destroy_slot.Reads as destroy-context-destroy-slot-reads

@@ -21,8 +21,10 @@ use Rattle.verdict.specs.declared.Verdict.the-variants.{Valid, Fault}
 use Rattle.verdict.specs.Tests.{Header, first, firstBelow, contextOf, slotTest, localitiesTest, localitiesOf, localityAt, defaultAt, otherAt, kindAt, foundFault, forestOf, verdict}
 use Rattle.verdict.proofs.Steps.{pass, stop, onward, halt, below-same}
 use Rattle.verdict.proofs.Same.{links-same, localities-same}
-use Rattle.validation.specs.declared.localities.Places.{Places}
-use Rattle.validation.specs.Summary.{slotIn, placesOf, kindIn, tableIn}
+use Rattle.validation_slots.specs.Summary.{slotIn}
+use Rattle.validation_localities.specs.declared.Places.{Places}
+use Rattle.validation_localities.specs.Summary.{placesOf}
+use Rattle.validation_trees.specs.Summary.{kindIn, tableIn}
 
 module _ (s : ℕ → Context) (l : Links) (e : l ≡ summaryOf s) where
   -- ---- the slots

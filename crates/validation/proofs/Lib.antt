@@ -1,6 +1,2 @@
--- Laws that belong to no one function: one for each way out of a test, and that a table's summary says what its slots say.
-pub mod Exits
-pub mod Children
-pub mod Counts
-pub mod Searches
+-- Laws that belong to no one function: that a table's summary says what its slots say, and one for each way out of the verdict.
 pub mod Agree

@@ -1,8 +1,4 @@
-// The validator of the context table. validation.rs.
-pub mod localities;
-pub mod slots;
-pub mod trees;
-
+// The validator of the context table: its tests in order. validation.rs.
 use error::DpeErrorCode;
 use error::Outcome;
 use error::ValidationError;
@@ -25,17 +21,17 @@ pub fn validate_dpe(t: State) -> Verdict
     let l = links::links_of(t);
     let children = l.children;
     let parents = l.parents;
-    let v = slots::slots_test(t, &children, &parents, l.live);
+    let v = validation_slots::slots_test(t, &children, &parents, l.live);
     let Verdict::Valid = v else {
         return v;
     };
-    let p = localities::places_of(t);
+    let p = validation_localities::places_of(t);
     let places = p.localities;
-    let w = localities::localities_test(&places, p.defaults, p.others);
+    let w = validation_localities::localities_test(&places, p.defaults, p.others);
     let Verdict::Valid = w else {
         return w;
     };
-    trees::trees_test(&children, &parents, l.live, l.simulations)
+    validation_trees::trees_test(&children, &parents, l.live, l.simulations)
 }
 
 // How a call ends that answers the verdict.

@@ -15,7 +15,7 @@ use Rattle.image.specs.State.{decodeState}
 use Rattle.links.specs.Summary.{marksOf}
 use Rattle.links.proofs.Summary.{marks-more}
 use Rattle.verdict.specs.Tests.{localityAt, defaultAt, otherAt}
-use Rattle.validation.proofs.Counts.{places-made}
+use Rattle.validation_localities.proofs.Counts.{places-made}
 use Rattle.view.specs.declared.SlotFields.{SlotFields}
 use Rattle.peek.proofs.Read.{fields-read}
 use Rattle.peek.proofs.summary.places_of.Statement.{statement}

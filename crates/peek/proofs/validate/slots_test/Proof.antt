@@ -10,7 +10,7 @@ use Rattle.image.specs.State.{decodeState}
 use Rattle.verdict.specs.declared.Verdict.the-variants.{Valid}
 use Rattle.verdict.specs.Tests.{headerOf, firstBelow}
 use Rattle.verdict.proofs.Steps.{below-more, below-stop}
-use Rattle.validation.specs.Summary.{slotIn}
+use Rattle.validation_slots.specs.Summary.{slotIn}
 use Rattle.peek.proofs.Read.{slot-tested}
 use Rattle.peek.proofs.validate.slots_test.Statement.{statement}
 use Rattle.peek.proofs.validate.slots_test.Tie as tie

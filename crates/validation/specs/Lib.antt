@@ -1,2 +1,0 @@
--- What the contracts of validation cite, beside the verdict itself.
-pub mod Summary

@@ -1,0 +1,2 @@
+-- Laws that belong to no one function: counting in a locality, and the places of a table.
+pub mod Counts

@@ -1,0 +1,2 @@
+-- What the contracts of the tests of the localities cite, beside the verdict itself.
+pub mod Summary

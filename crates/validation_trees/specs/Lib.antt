@@ -1,0 +1,2 @@
+-- What the contracts of the tests of the forest cite, beside the verdict itself.
+pub mod Summary
