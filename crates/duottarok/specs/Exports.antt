@@ -50,10 +50,6 @@ abbrev pub marksPlace : Answer → ℕ → ℕ
 marksPlace (answer.Marks m) old = m
 marksPlace (answer.Refused e) old = old
 
-abbrev pub slotsPlace : Found → List ℕ → List ℕ → List ℕ
-slotsPlace (found.At k) new old = new
-slotsPlace (found.Refused e) new old = old
-
 -- the place of the new handle; what the image holds stands in place/specs
 abbrev pub handlePlace : NewHandle → List ℕ → List ℕ
 handlePlace n old = bytesPlace (n .answer) (n .handle) old

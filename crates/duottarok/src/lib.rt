@@ -15,8 +15,9 @@ use table::handle;
 use table::state::Found;
 ghost use mathlib.Core.Path.{_≡_};
 ghost use Rattle.error.specs.Numbers.{wordOf};
+ghost use Rattle.walks.specs.Path.{slotsPlace};
 ghost use Rattle.place.specs.Place.{imageAfter, destroyedAfter};
-ghost use Rattle.duottarok.specs.Exports.{validateAt, foundWord, foundPlace, marksWord, marksPlace, slotsPlace, handlePlace, lookupAt, initializeAt, rotateAt, destroyAt, descendantsAt, pathAt, lengthAt, countAt};
+ghost use Rattle.duottarok.specs.Exports.{validateAt, foundWord, foundPlace, marksWord, marksPlace, handlePlace, lookupAt, initializeAt, rotateAt, destroyAt, descendantsAt, pathAt, lengthAt, countAt};
 
 fn wide(x: usize) -> u64
     ensures { λ r. ⌜ r ≡ x ⌝ }
@@ -167,12 +168,8 @@ pub extern "C" fn dpe_path(
     if !state::is_readable(image) {
         return error::word(state::readable(image));
     }
-    let found = path::root_to_leaf(image, slot);
-    let k = found.length;
-    match k {
+    match path::root_to_leaf(image, slot, slots) {
         Found::At(n) => {
-            let all = found.slots;
-            *slots = all;
             *length = wide(n);
             0
         }

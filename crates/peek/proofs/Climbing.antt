@@ -14,7 +14,8 @@ use Rattle.children.proofs.Cases.{two, ltb-true}
 use Rattle.table.specs.declared.state.Found.{Found}
 use Rattle.table.specs.declared.state.Found.the-variants.{At, Refused}
 use Rattle.links.specs.Summary.{numberIn}
-use Rattle.walks.specs.Path.{slotsOf}
+use Rattle.walks.specs.declared.path.Path.{Path}
+use Rattle.walks.specs.Path.{slotsOf, slotsPlace}
 
 -- a refusal has met no slots
 pub met-none : (up : ℕ → ℕ) (l : List ℕ) {f : Found} {e : DpeErrorCode} → f ≡ Refused e → (k : ℕ) → f ≡ At k → take k l ≡ listOf up k
@@ -37,3 +38,10 @@ laid-same up l n k e = listOf-same _ _ n (λ i w. elim (two (ltb i k)) [
       rw b (sym (getD-take k l (k - suc i) 0 o) ∙ ap (λ (x : List ℕ). getD x (k - suc i) 0) e ∙ listOf-at up k (k - suc i) 0 o)
   | inr b ↦ rw b
 ])
+
+-- a refusal keeps the place of the slots, and a path fills it
+pub slots-kept : (p : Path) (old : List ℕ) {e : DpeErrorCode} → p .length ≡ Refused e → old ≡ slotsPlace (p .length) (p .slots) old
+slots-kept p old q = rw q
+
+pub slots-laid : (p : Path) (old new : List ℕ) {k : ℕ} → p .length ≡ At k → new ≡ p .slots → new ≡ slotsPlace (p .length) (p .slots) old
+slots-laid p old new q e = rw q e

@@ -6,7 +6,6 @@ use error::InternalErrorCode;
 use table::context::ROOT_INDEX;
 use table::state::Found;
 use walks::path;
-use walks::path::Path;
 use walks::run;
 ghost use mathlib.Core.Path.{_≡_};
 ghost use Prim.Native.Nat.{ℕ, _≤_};
@@ -16,13 +15,7 @@ ghost use Rattle.children.specs.Marks.{slotCount};
 ghost use Rattle.table.specs.Context.{slotOf};
 ghost use Rattle.image.specs.State.{stateSize, decodeState};
 ghost use Rattle.links.specs.Summary.{liveAt, parentAt, numberIn, stepsUp};
-ghost use Rattle.walks.specs.Path.{parentOf, lengthFrom, slotsOf, pathIn};
-
-// A climb from a slot to its root: how many slots the path has, or why there is none; and the slots met, the slot itself first.
-struct Climb {
-    length: Found,
-    up: [u8; MAX_HANDLES],
-}
+ghost use Rattle.walks.specs.Path.{parentOf, lengthFrom, slotsOf, pathIn, slotsPlace};
 
 // The parent of a slot that may stand on a path.
 fn parent_of(image: &[u8], slot: usize) -> Found
@@ -45,63 +38,53 @@ fn parent_of(image: &[u8], slot: usize) -> Found
     Found::At(run::index(p))
 }
 
-// The climb from a slot to its root, each parent read once.
-fn climbed(image: &[u8], slot: usize) -> Climb
-    requires { ⌜ length (now image) ≡ stateSize ⌝ }
-    ensures { λ r. ⌜ r .length ≡ lengthFrom slotCount (liveAt (slotOf (decodeState (now (image .entry)) .contexts))) (parentAt (slotOf (decodeState (now (image .entry)) .contexts))) slotCount 0 slot ⌝ }
-    ensures { λ r. ⌜ ((k : ℕ) → r .length ≡ Found.At k → take k (r .up) ≡ listOf (λ j. stepsUp (parentAt (slotOf (decodeState (now (image .entry)) .contexts))) j slot) k) ⌝ }
+// The climb from a slot to its root, each parent read once: how many slots the path has, or why there is none. `up` gets the slots met, the slot itself first.
+fn climbed(image: &[u8], slot: usize, up: &mut [u8; MAX_HANDLES]) -> Found
+    requires { ⌜ (length (now image) ≡ stateSize) × (length (now up) ≡ slotCount) ⌝ }
+    ensures { λ r. ⌜ r ≡ lengthFrom slotCount (liveAt (slotOf (decodeState (now (image .entry)) .contexts))) (parentAt (slotOf (decodeState (now (image .entry)) .contexts))) slotCount 0 slot ⌝ }
+    ensures { λ r. ⌜ ((k : ℕ) → r ≡ Found.At k → take k (now (up .exit)) ≡ listOf (λ j. stepsUp (parentAt (slotOf (decodeState (now (image .entry)) .contexts))) j slot) k) ⌝ }
 {
-    let mut up = [0u8; MAX_HANDLES];
     let mut x = slot;
     for j in 0..MAX_HANDLES {
         let f = parent_of(image, x);
         let Found::At(p) = f else {
-            return Climb { length: f, up };
+            return f;
         };
         up[j] = path::byte(x);
         if p == run::index(ROOT_INDEX) {
-            return Climb {
-                length: Found::At(j + 1),
-                up,
-            };
+            return Found::At(j + 1);
         }
         x = p;
     }
     let f = parent_of(image, x);
     let Found::At(_) = f else {
-        return Climb { length: f, up };
+        return f;
     };
-    Climb {
-        length: Found::Refused(DpeErrorCode::InternalError(
-            InternalErrorCode::TciNodeCountExceeded,
-        )),
-        up,
-    }
+    Found::Refused(DpeErrorCode::InternalError(InternalErrorCode::TciNodeCountExceeded))
 }
 
 // The slots of a path of k slots, from the root on, where `up` has them from the last on.
-fn laid(up: &[u8; MAX_HANDLES], k: usize) -> [u8; MAX_HANDLES]
+fn lay(up: &[u8; MAX_HANDLES], k: usize, slots: &mut [u8; MAX_HANDLES])
     requires { ⌜ k ≤ slotCount ⌝ }
-    ensures { λ r. ⌜ r ≡ slotsOf slotCount (numberIn (now (up .entry))) (Found.At k) ⌝ }
+    ensures { λ _. ⌜ now (slots .exit) ≡ slotsOf slotCount (numberIn (now (up .entry))) (Found.At k) ⌝ }
 {
-    let mut slots = [0u8; MAX_HANDLES];
+    *slots = [0u8; MAX_HANDLES];
     for j in 0..k {
         slots[k - 1 - j] = up[j];
     }
-    slots
 }
 
-// The path from the root down to a slot.
-pub fn root_to_leaf(image: &[u8], slot: usize) -> Path
+// The path from the root down to a slot: how many slots it has, and the slots, or a refusal that leaves them as they were.
+pub fn root_to_leaf(image: &[u8], slot: usize, slots: &mut [u8; MAX_HANDLES]) -> Found
     requires { ⌜ length (now image) ≡ stateSize ⌝ }
-    ensures { λ r. ⌜ r ≡ pathIn slotCount (slotOf (decodeState (now (image .entry)) .contexts)) slot ⌝ }
+    ensures { λ r. ⌜ r ≡ pathIn slotCount (slotOf (decodeState (now (image .entry)) .contexts)) slot .length ⌝ }
+    ensures { λ _. ⌜ now (slots .exit) ≡ slotsPlace (pathIn slotCount (slotOf (decodeState (now (image .entry)) .contexts)) slot .length) (pathIn slotCount (slotOf (decodeState (now (image .entry)) .contexts)) slot .slots) (now (slots .entry)) ⌝ }
 {
-    let c = climbed(image, slot);
-    let length = c.length;
+    let mut up = [0u8; MAX_HANDLES];
+    let length = climbed(image, slot, &mut up);
     let Found::At(k) = length else {
-        let slots = [0u8; MAX_HANDLES];
-        return Path { length, slots };
+        return length;
     };
-    let slots = laid(&c.up, k);
-    Path { length, slots }
+    lay(&up, k, slots);
+    length
 }

@@ -5,6 +5,7 @@ use mathlib.Core.Path.{_≡_, sym, ap, _∙_}
 use Prim.Native.Nat.{ℕ}
 use native.Mathlib.Omega.{arith}
 use lib.ListN.{length, getD}
+use lib.Seq.{set-getD}
 use mir.Syntax.{w8}
 use mir.Val.{Fits}
 use Rattle.error.specs.declared.DpeErrorCode.{DpeErrorCode}
@@ -15,7 +16,8 @@ use Rattle.wire.specs.Le.{Bytes}
 use Rattle.table.specs.declared.context.Context.{Context}
 use Rattle.table.specs.declared.state.State.{State}
 use Rattle.table.specs.declared.state.NewHandle.{NewHandle}
-use Rattle.table.specs.Context.{destroyed, withChildren}
+use Rattle.table.specs.Context.{noContext, slotOf, destroyed, withChildren}
+use Rattle.table.specs.State.{withContexts, withSlot}
 use Rattle.destroy_context.specs.declared.Destroyed.{Destroyed}
 use Rattle.destroy_context.specs.Destroy.{clearedSlot}
 use Rattle.image.specs.State.{slotIn, decodeState, encodeState}
@@ -66,3 +68,7 @@ module _ (set i : ℕ) (c : Context) where
   pub cleared-out : marked set i ≡ false → clearedSlot set i c ≡ withChildren c (without (c .children) set)
   unfolding clearedSlot
   cleared-out e = rw e
+
+-- the marks that a slot has are written for nothing
+pub marks-kept : (t : State) (i m : ℕ) → m ≡ slotOf (t .contexts) i .children → withSlot t i (withChildren (slotOf (t .contexts) i) m) ≡ t
+marks-kept t i m e = ap (λ (x : ℕ). withSlot t i (withChildren (slotOf (t .contexts) i) x)) e ∙ ap (withContexts t) (set-getD (t .contexts) i noContext)

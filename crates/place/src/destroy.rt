@@ -20,7 +20,7 @@ ghost use Rattle.image.specs.State.{stateSize, decodeState, encodeState, readab
 ghost use Rattle.destroy_context.specs.Destroy.{clearedSlot, clearedBy, doomedIn, destroyOf};
 ghost use Rattle.place.specs.Place.{Holds, destroyedAfter};
 
-// The slot is cleared where the set has it, and else loses the marks of the set.
+// The slot is cleared where the set has it, and else loses the marks of the set; marks that stay the same are not written.
 fn clear_slot(image: &mut [u8], slot: usize, set: u64)
     requires { ⌜ (readableOf (now image) ≡ Done) × (slot < slotCount) ⌝ }
     ensures { λ _. ⌜ Holds (now (image .exit)) (withSlot (decodeState (now (image .entry))) slot (clearedSlot set slot (slotOf (decodeState (now (image .entry)) .contexts) slot))) ⌝ }
@@ -31,7 +31,10 @@ fn clear_slot(image: &mut [u8], slot: usize, set: u64)
         return;
     }
     let kids = slot::children_at(image, slot);
-    put::put_children(image, slot, children::remove_children(kids, set));
+    let left = children::remove_children(kids, set);
+    if left != kids {
+        put::put_children(image, slot, left);
+    }
 }
 
 // Every slot so.

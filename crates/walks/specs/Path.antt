@@ -47,6 +47,11 @@ pathOf n live parent slot = record {
 abbrev pub pathIn : ℕ → (ℕ → Context) → ℕ → Path
 pathIn n s slot = pathOf n (liveAt s) (parentAt s) slot
 
+-- the place of the slots afterwards: the new ones, or after a refusal the old
+abbrev pub slotsPlace : Found → List ℕ → List ℕ → List ℕ
+slotsPlace (At k) new old = new
+slotsPlace (Refused e) new old = old
+
 -- k slots stand on the way up from a slot, itself the first
 pub record Climbs (n : ℕ) (parent : ℕ → ℕ) (slot k : ℕ) : Type 0 where
   pub few : k ≤ n

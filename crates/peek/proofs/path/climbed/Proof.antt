@@ -32,7 +32,7 @@ abbrev μ-loop : tie.MeasureT-loop
 
 loop-holds : tie.Need-loop-holds Inv-loop μ-loop
 unfolding stepsUp listOf
-loop-holds c = (omega arith, refl, refl, refl, refl)
+loop-holds c = (omega arith, refl, refl, c .before .pre .1, refl)
 
 parent-of-requires : tie.Need-parent-of-requires Inv-loop μ-loop
 parent-of-requires c κs = search needs
@@ -54,14 +54,14 @@ byte-requires c κs =
     let l = c .before .before .before .before .before .loop in
     parent-from _ _ _ (l .x) _ (sym (c .before .before .before .parent-of .ensures) ∙ c .before .f .given .1) .0
 
-array-write-up : tie.Need-array-write-up Inv-loop μ-loop
-array-write-up c = omega arith
+element-write-up : tie.Need-element-write-up Inv-loop μ-loop
+element-write-up c = omega arith
 
 index-requires : tie.Need-index-requires Inv-loop μ-loop
 index-requires c κs = search needs
 
-add-t15 : tie.Need-add-t15 Inv-loop μ-loop
-add-t15 c = omega arith
+add-t14 : tie.Need-add-t14 Inv-loop μ-loop
+add-t14 c = omega arith
 
 returns-2 : tie.Need-returns-2 Inv-loop μ-loop
 returns-2 c =
@@ -128,9 +128,9 @@ climbed-spec =
     enum-told
     returns
     byte-requires
-    array-write-up
+    element-write-up
     index-requires
-    add-t15
+    add-t14
     returns-2
     add-j
     loop-less

@@ -6,9 +6,9 @@ use Rattle.children.specs.Marks.{slotCount}
 use Rattle.table.specs.Context.{slotOf}
 use Rattle.image.specs.State.{decodeState}
 use Rattle.links.specs.Summary.{liveAt}
-use Rattle.walks.specs.Path.{slotsOf}
-use Rattle.walks.proofs.Steps.{path-made, climbs}
-use Rattle.peek.proofs.Climbing.{laid-same}
+use Rattle.walks.specs.Path.{slotsOf, pathOf, pathIn}
+use Rattle.walks.proofs.Steps.{climbs}
+use Rattle.peek.proofs.Climbing.{laid-same, slots-kept, slots-laid}
 use Rattle.peek.proofs.path.root_to_leaf.Statement.{statement}
 use Rattle.peek.proofs.path.root_to_leaf.Tie as tie
 
@@ -22,25 +22,30 @@ enum-told : tie.Need-enum-told
 enum-told c = search needs
 
 returns : tie.Need-returns
-unfolding slotsOf
+unfolding pathOf
 returns c =
-    let a = c .before .before .before .before .args in
-    path-made slotCount _ _ (a .slot) _ _ (c .before .before .climbed .ensures .0) (sym (ap (slotsOf slotCount _) (c .enum-told .given .1)))
+    let a = c .before .before .before .before .before .args in
+    let e = c .before .before .climbed .ensures .0 in
+    (e, slots-kept (pathIn slotCount (slotOf (decodeState (now (a .image)) .contexts)) (a .slot)) _ (sym e ∙ c .enum-told .given .1))
 
-laid-requires : tie.Need-laid-requires
-laid-requires c κs =
+lay-requires : tie.Need-lay-requires
+lay-requires c κs =
     let l = c .before .before .before in
-    let a = l .before .before .before .before .args in
+    let a = l .before .before .before .before .before .args in
     climbs slotCount (liveAt (slotOf (decodeState (now (a .image)) .contexts))) _ _ _ (sym (l .before .before .climbed .ensures .0) ∙ l .length .given .1) .few
 
 returns-2 : tie.Need-returns-2
+unfolding pathOf
 returns-2 c =
     let l = c .before .before .before .before in
-    let a = l .before .before .before .before .args in
+    let a = l .before .before .before .before .before .args in
     let e = l .before .before .climbed .ensures in
-    path-made slotCount (liveAt (slotOf (decodeState (now (a .image)) .contexts))) _ (a .slot) _ _ (sym (l .length .given .1) ∙ e .0)
-    (c .laid .ensures ∙ laid-same _ _ slotCount _ (e .1 _ (l .length .given .1)))
+    let n = sym (l .length .given .1) ∙ e .0 in (
+      n,
+      slots-laid (pathIn slotCount (slotOf (decodeState (now (a .image)) .contexts)) (a .slot)) _ _ (sym n)
+          (c .lay .ensures ∙ laid-same _ _ slotCount _ (e .1 _ (l .length .given .1)) ∙ ap (slotsOf slotCount _) n),
+    )
 
 pub root-to-leaf-spec : {M : Type 1} → statement M
 root-to-leaf-spec =
-    tie.close (tie.spec climbed-requires enum-known-length enum-told returns laid-requires returns-2)
+    tie.close (tie.spec climbed-requires enum-known-length enum-told returns lay-requires returns-2)

@@ -8,7 +8,7 @@ use Rattle.table.specs.State.{withSlot}
 use Rattle.image.specs.State.{decodeState}
 use Rattle.image.proofs.Reading.{readable-size}
 use Rattle.walks.proofs.Down.{seen}
-use Rattle.place.proofs.After.{cleared-in, cleared-out}
+use Rattle.place.proofs.After.{cleared-in, cleared-out, marks-kept}
 use borrow.Author.Needs.{needs}
 use Rattle.place.proofs.destroy.clear_slot.Statement.{statement}
 use Rattle.place.proofs.destroy.clear_slot.Tie as tie
@@ -54,15 +54,27 @@ same-length-2 c = search needs
 
 returns-2 : tie.Need-returns-2
 returns-2 c =
-    let s = c .before .before .before .before .before .before .before .before .before .before in
+    let s = c .before .before .before .before .before .before .before .before .before .before .before in
     let l = now (s .args .image) in
     let e = c .before .before .put-children .ensures in
-    let clear = seen slotCount _ _ (s .pre .1) (c .before .before .before .before .before .before .before .before .has-child .ensures) (c .before .before .before .before .before .before .before .if1 .left) in
-    let kids = c .before .before .before .remove-children .ensures ∙ ap (λ (m : ℕ). without m (s .args .set)) (c .before .before .before .before .before .children-at .ensures) in (
+    let clear = seen slotCount _ _ (s .pre .1) (c .before .before .before .before .before .before .before .before .before .has-child .ensures) (c .before .before .before .before .before .before .before .before .if1 .left) in
+    let kids = c .before .before .before .before .before .remove-children .ensures ∙ ap (λ (m : ℕ). without m (s .args .set)) (c .before .before .before .before .before .before .children-at .ensures) in (
       e .0,
       e .1 ∙ ap (λ (m : ℕ). withSlot (decodeState l) (s .args .slot) (withChildren (slotOf (decodeState l .contexts) (s .args .slot)) m)) kids
           ∙ ap (withSlot (decodeState l) (s .args .slot)) (sym (cleared-out _ _ _ clear)),
     )
+
+same-length-3 : tie.Need-same-length-3
+same-length-3 c = search needs
+
+returns-3 : tie.Need-returns-3
+returns-3 c =
+    let s = c .before .before .before .before .before .before .before in
+    let l = now (s .args .image) in
+    let clear = seen slotCount _ _ (s .pre .1) (c .before .before .before .before .before .has-child .ensures) (c .before .before .before .before .if1 .left) in
+    let own = c .before .before .children-at .ensures in
+    let kids = c .before .remove-children .ensures ∙ ap (λ (m : ℕ). without m (s .args .set)) own in
+    (s .pre .0, sym (marks-kept (decodeState l) (s .args .slot) _ (sym kids ∙ c .if2 .left ∙ own)) ∙ ap (withSlot (decodeState l) (s .args .slot)) (sym (cleared-out _ _ _ clear)))
 
 pub clear-slot-spec : {M : Type 1} → statement M
 clear-slot-spec =
@@ -78,4 +90,6 @@ clear-slot-spec =
     remove-children-requires
     put-children-requires
     same-length-2
-    returns-2)
+    returns-2
+    same-length-3
+    returns-3)
