@@ -17,7 +17,7 @@ use Rattle.table.specs.declared.state.Found.the-variants as found
 use Rattle.table.specs.declared.state.NewHandle.{NewHandle}
 use Rattle.table.specs.Context.{slotOf}
 use Rattle.table.specs.State.{countIn, refusedOf}
-use Rattle.image.specs.Context.{stateOf, first}
+use Rattle.image_context.specs.Context.{stateOf, first}
 use Rattle.image.specs.State.{decodeState, readableOf}
 use Rattle.verdict.specs.Tests.{verdictOf, outcomeOf}
 use Rattle.lookup.specs.Lookup.{lookupIn}
