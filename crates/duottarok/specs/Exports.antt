@@ -23,9 +23,9 @@ use Rattle.verdict.specs.Tests.{verdictOf, outcomeOf}
 use Rattle.lookup.specs.Lookup.{lookupIn}
 use Rattle.initialize_context.specs.Initialize.{initializedOf}
 use Rattle.rotate_context.specs.Rotate.{rotatedOf}
-use Rattle.walks.specs.declared.path.Path.{Path}
+use Rattle.walks_path.specs.declared.Path.{Path}
 use Rattle.walks.specs.Walks.{descendantsIn}
-use Rattle.walks.specs.Path.{pathIn}
+use Rattle.walks_path.specs.Path.{pathIn}
 use Rattle.destroy_context.specs.declared.Destroyed.{Destroyed}
 use Rattle.destroy_context.specs.Destroy.{destroyOf, refusedBy}
 use Rattle.place.specs.Place.{bytesPlace}

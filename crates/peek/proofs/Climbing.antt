@@ -14,7 +14,7 @@ use Rattle.children.proofs.Cases.{two, ltb-true}
 use Rattle.table.specs.declared.state.Found.{Found}
 use Rattle.table.specs.declared.state.Found.the-variants.{At, Refused}
 use Rattle.links.specs.Summary.{numberIn}
-use Rattle.walks.specs.Path.{slotsOf}
+use Rattle.walks_path.specs.Path.{slotsOf}
 
 -- a refusal has met no slots
 pub met-none : (up : ℕ → ℕ) (l : List ℕ) {f : Found} {e : DpeErrorCode} → f ≡ Refused e → (k : ℕ) → f ≡ At k → take k l ≡ listOf up k

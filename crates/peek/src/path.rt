@@ -5,9 +5,8 @@ use error::DpeErrorCode;
 use error::InternalErrorCode;
 use table::context::ROOT_INDEX;
 use table::state::Found;
-use walks::path;
-use walks::path::Path;
 use walks::run;
+use walks_path::Path;
 ghost use mathlib.Core.Path.{_≡_};
 ghost use Prim.Native.Nat.{ℕ, _≤_};
 ghost use lib.ListN.{length, take};
@@ -16,7 +15,7 @@ ghost use Rattle.children.specs.Marks.{slotCount};
 ghost use Rattle.table.specs.Context.{slotOf};
 ghost use Rattle.image.specs.State.{stateSize, decodeState};
 ghost use Rattle.links.specs.Summary.{liveAt, parentAt, numberIn, stepsUp};
-ghost use Rattle.walks.specs.Path.{parentOf, lengthFrom, slotsOf, pathIn};
+ghost use Rattle.walks_path.specs.Path.{parentOf, lengthFrom, slotsOf, pathIn};
 
 // A climb from a slot to its root: how many slots the path has, or why there is none; and the slots met, the slot itself first.
 struct Climb {
@@ -58,7 +57,7 @@ fn climbed(image: &[u8], slot: usize) -> Climb
         let Found::At(p) = f else {
             return Climb { length: f, up };
         };
-        up[j] = path::byte(x);
+        up[j] = walks_path::byte(x);
         if p == run::index(ROOT_INDEX) {
             return Climb {
                 length: Found::At(j + 1),

@@ -52,9 +52,9 @@ use Rattle.table.proofs.u8bool.new.Reads as table-u8bool-new-reads
 use Rattle.links.proofs.links_of.Reads as links-links-of-reads
 use Rattle.walks.proofs.descendants.descend.Reads as walks-descendants-descend-reads
 use Rattle.walks.proofs.descendants.get_descendants.Reads as walks-descendants-get-descendants-reads
-use Rattle.walks.proofs.path.byte.Reads as walks-path-byte-reads
+use Rattle.walks_path.proofs.byte.Reads as walks-path-byte-reads
 use Rattle.walks.proofs.why.Reads as walks-why-reads
-use Rattle.walks.proofs.path.root_to_leaf.Reads as walks-path-root-to-leaf-reads
+use Rattle.walks_path.proofs.root_to_leaf.Reads as walks-path-root-to-leaf-reads
 use Rattle.walks.proofs.run.index.Reads as walks-run-index-reads
 use Rattle.walks.proofs.run.run_above.Reads as walks-run-run-above-reads
 use Rattle.wire.proofs.read_u16.Reads as wire-read-u16-reads

@@ -6,8 +6,8 @@ use Rattle.children.specs.Marks.{slotCount}
 use Rattle.table.specs.Context.{slotOf}
 use Rattle.image.specs.State.{decodeState}
 use Rattle.links.specs.Summary.{liveAt}
-use Rattle.walks.specs.Path.{slotsOf}
-use Rattle.walks.proofs.Steps.{path-made, climbs}
+use Rattle.walks_path.specs.Path.{slotsOf}
+use Rattle.walks_path.proofs.Steps.{path-made, climbs}
 use Rattle.peek.proofs.Climbing.{laid-same}
 use Rattle.peek.proofs.path.root_to_leaf.Statement.{statement}
 use Rattle.peek.proofs.path.root_to_leaf.Tie as tie

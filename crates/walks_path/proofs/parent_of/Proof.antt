@@ -1,16 +1,15 @@
--- `walks::path::parent_of` meets its contract. Assumes nothing.
+-- `walks_path::parent_of` meets its contract. Assumes nothing.
 use mathlib.Core.Path.{sym, ap, _∙_}
 use Prim.Native.Nat.{_<_}
 use native.Mathlib.Omega.{arith}
 use borrow.Author.Needs.{needs}
 use Rattle.children.specs.Marks.{slotCount}
 use Rattle.children.proofs.Cases.{not-true, not-false}
 use Rattle.walks.proofs.Down.{seen}
 use Rattle.table.specs.declared.state.Found.the-variants.{At}
-use Rattle.walks.proofs.Steps.{parent-oob, parent-idle, parent-stray, parent-slot, parent-none}
-use borrow.Author.Needs.{needs}
-use Rattle.walks.proofs.path.parent_of.Statement.{statement}
-use Rattle.walks.proofs.path.parent_of.Tie as tie
+use Rattle.walks_path.proofs.Steps.{parent-oob, parent-idle, parent-stray, parent-slot, parent-none}
+use Rattle.walks_path.proofs.parent_of.Statement.{statement}
+use Rattle.walks_path.proofs.parent_of.Tie as tie
 
 returns : tie.Need-returns
 returns c = sym (parent-oob _ _ _ _ (c .if1 .taken))

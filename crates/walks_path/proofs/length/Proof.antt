@@ -1,4 +1,4 @@
--- `walks::path::length` meets its contract. Assumes nothing.
+-- `walks_path::length` meets its contract. Assumes nothing.
 use mathlib.Core.Path.{_≡_, refl, sym, ap, _∙_}
 use Prim.Native.Nat.{ℕ, _≤_, _-_, _+_}
 use native.Mathlib.Omega.{arith}
@@ -6,10 +6,10 @@ use borrow.Author.Needs.{needs}
 use denote.Ref.{now}
 use Rattle.children.specs.Marks.{slotCount, marked}
 use Rattle.links.specs.Summary.{numberIn}
-use Rattle.walks.specs.Path.{lengthFrom}
-use Rattle.walks.proofs.Steps.{length-refused, length-root, length-on, length-full}
-use Rattle.walks.proofs.path.length.Statement.{statement}
-use Rattle.walks.proofs.path.length.Tie as tie
+use Rattle.walks_path.specs.Path.{lengthFrom}
+use Rattle.walks_path.proofs.Steps.{length-refused, length-root, length-on, length-full}
+use Rattle.walks_path.proofs.length.Statement.{statement}
+use Rattle.walks_path.proofs.length.Tie as tie
 
 abbrev Inv-loop : tie.InvT-loop
 Inv-loop parents live slot x₀ j₀ x j =

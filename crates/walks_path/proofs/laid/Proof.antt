@@ -1,4 +1,4 @@
--- `walks::path::laid` meets its contract. Assumes nothing.
+-- `walks_path::laid` meets its contract. Assumes nothing.
 use mathlib.Core.Path.{_≡_, refl, sym, ap, _∙_}
 use Prim.Native.Nat.{ℕ, _≤_, _-_}
 use native.Mathlib.Numerals.{add-one}
@@ -8,9 +8,9 @@ use denote.Ref.{now}
 use Rattle.children.specs.Below.{listOf}
 use Rattle.children.specs.Marks.{slotCount}
 use Rattle.links.specs.Summary.{numberIn, stepsUp}
-use Rattle.walks.proofs.Steps.{cell, laid-none, laid-more, laid-all}
-use Rattle.walks.proofs.path.laid.Statement.{statement}
-use Rattle.walks.proofs.path.laid.Tie as tie
+use Rattle.walks_path.proofs.Steps.{cell, laid-none, laid-more, laid-all}
+use Rattle.walks_path.proofs.laid.Statement.{statement}
+use Rattle.walks_path.proofs.laid.Tie as tie
 
 abbrev Inv-loop : tie.InvT-loop
 Inv-loop parents slot k slots₀ x₀ j₀ slots x j =

@@ -1,6 +1,6 @@
 -- How a path is found and laid out. Assumes nothing.
 use mathlib.Core.Bool.{Bool, true, false, cond, _&&_, _||_}
-use mathlib.Core.List.{List, [], _∷_, _++_}
+use mathlib.Core.List.{List}
 use mathlib.Core.Logic.{inl, inr}
 use mathlib.Core.Path.{_≡_, refl, sym, ap, _∙_}
 use Prim.Native.Nat.{ℕ, zero, suc, _+_, _-_, _≤_, _<_}
@@ -8,7 +8,7 @@ use native.Mathlib.Decide.{ℕ-discrete, decLt}
 use native.Mathlib.Numerals.{add-one}
 use native.Mathlib.Omega.{arith}
 use lib.Dec.{eqb, ltb, leb}
-use lib.ListN.{length, getD, set, length-set, replicate}
+use lib.ListN.{getD, set, length-set}
 use lib.Seq.{getD-set-same, getD-set-other, ext-getD}
 use borrow.Author.Tests.{lt-ltb, le-ltb, lt-leb, le-leb, eq-eqb, ne-eqb}
 use Rattle.error.specs.declared.DpeErrorCode.{DpeErrorCode}
@@ -16,12 +16,12 @@ use Rattle.error.specs.declared.DpeErrorCode.the-variants.{InternalError, Inval
 use Rattle.error.specs.declared.InternalErrorCode.the-variants.{ContextIndexOob, TciNodeCountExceeded}
 use Rattle.children.specs.Below.{listOf}
 use Rattle.children.proofs.Below.{length-listOf, listOf-at, listOf-same}
-use Rattle.children.proofs.Cases.{two, clash, ltb-true, eqb-true, and-true, and-right}
+use Rattle.children.proofs.Cases.{two, ltb-true, and-right}
 use Rattle.table.specs.declared.state.Found.{Found}
 use Rattle.table.specs.declared.state.Found.the-variants.{At, Refused}
 use Rattle.table.specs.Context.{noParent}
 use Rattle.links.specs.Summary.{stepsUp}
-use Rattle.walks.specs.Path.{parentOf, onward, lengthFrom, slotsOf, pathOf, Climbs}
+use Rattle.walks_path.specs.Path.{parentOf, onward, lengthFrom, slotsOf, pathOf, Climbs}
 
 module _ (n : ℕ) (live : ℕ → Bool) (parent : ℕ → ℕ) (x : ℕ) where
   -- ---- the parent of a slot

@@ -1,10 +1,10 @@
--- `walks::path::root_to_leaf` meets its contract. Assumes nothing.
+-- `walks_path::root_to_leaf` meets its contract. Assumes nothing.
 use mathlib.Core.Path.{_∙_}
 use Rattle.table.specs.Context.{slotOf}
-use Rattle.walks.proofs.Summary.{path-summary}
+use Rattle.walks_path.proofs.Summary.{path-summary}
 use borrow.Author.Needs.{needs}
-use Rattle.walks.proofs.path.root_to_leaf.Statement.{statement}
-use Rattle.walks.proofs.path.root_to_leaf.Tie as tie
+use Rattle.walks_path.proofs.root_to_leaf.Statement.{statement}
+use Rattle.walks_path.proofs.root_to_leaf.Tie as tie
 
 links-of-requires : tie.Need-links-of-requires
 links-of-requires c κs = search needs

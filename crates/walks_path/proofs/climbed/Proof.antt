@@ -1,11 +1,11 @@
--- `walks::path::climbed` meets its contract. Assumes nothing.
+-- `walks_path::climbed` meets its contract. Assumes nothing.
 use mathlib.Core.Path.{sym, ap, _∙_}
 use Rattle.children.specs.Marks.{slotCount, marked}
-use Rattle.walks.specs.Path.{slotsOf}
-use Rattle.walks.proofs.Steps.{path-made, climbs}
+use Rattle.walks_path.specs.Path.{slotsOf}
+use Rattle.walks_path.proofs.Steps.{path-made, climbs}
 use borrow.Author.Needs.{needs}
-use Rattle.walks.proofs.path.climbed.Statement.{statement}
-use Rattle.walks.proofs.path.climbed.Tie as tie
+use Rattle.walks_path.proofs.climbed.Statement.{statement}
+use Rattle.walks_path.proofs.climbed.Tie as tie
 
 length-requires : tie.Need-length-requires
 length-requires c κs = search needs

@@ -12,7 +12,7 @@ use Rattle.table.specs.declared.state.Found.{Found}
 use Rattle.table.specs.declared.state.Found.the-variants.{At, Refused}
 use Rattle.table.specs.Context.{noParent}
 use Rattle.links.specs.Summary.{liveAt, parentAt, stepsUp}
-use Rattle.walks.specs.declared.path.Path.{Path}
+use Rattle.walks_path.specs.declared.Path.{Path}
 
 -- the parent of a slot that may stand on a path: it is a slot; it is not inactive, and its parent is a slot or none
 unfoldable pub parentOf : ℕ → (ℕ → Bool) → (ℕ → ℕ) → ℕ → Found
