@@ -17,15 +17,15 @@ use Rattle.table.specs.declared.state.Found.the-variants as found
 use Rattle.table.specs.declared.state.NewHandle.{NewHandle}
 use Rattle.table.specs.Context.{slotOf}
 use Rattle.table.specs.State.{countIn, refusedOf}
-use Rattle.image.specs.Context.{stateOf, first}
+use Rattle.image_context.specs.Context.{stateOf, first}
 use Rattle.image.specs.State.{decodeState, readableOf}
 use Rattle.verdict.specs.Tests.{verdictOf, outcomeOf}
 use Rattle.lookup.specs.Lookup.{lookupIn}
 use Rattle.initialize_context.specs.Initialize.{initializedOf}
 use Rattle.rotate_context.specs.Rotate.{rotatedOf}
-use Rattle.walks.specs.declared.path.Path.{Path}
+use Rattle.walks_path.specs.declared.Path.{Path}
 use Rattle.walks.specs.Walks.{descendantsIn}
-use Rattle.walks.specs.Path.{pathIn}
+use Rattle.walks_path.specs.Path.{pathIn}
 use Rattle.destroy_context.specs.declared.Destroyed.{Destroyed}
 use Rattle.destroy_context.specs.Destroy.{destroyOf, refusedBy}
 use Rattle.place.specs.Place.{bytesPlace}

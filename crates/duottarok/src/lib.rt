@@ -15,7 +15,7 @@ use table::handle;
 use table::state::Found;
 ghost use mathlib.Core.Path.{_≡_};
 ghost use Rattle.error.specs.Numbers.{wordOf};
-ghost use Rattle.walks.specs.Path.{slotsPlace};
+ghost use Rattle.walks_path.specs.Path.{slotsPlace};
 ghost use Rattle.place.specs.Place.{imageAfter, destroyedAfter};
 ghost use Rattle.duottarok.specs.Exports.{validateAt, foundWord, foundPlace, marksWord, marksPlace, handlePlace, lookupAt, initializeAt, rotateAt, destroyAt, descendantsAt, pathAt, lengthAt, countAt};
 

@@ -23,12 +23,12 @@ use Rattle.table.specs.State.{withSlot, withInitialized}
 use Rattle.table.specs.declared.tci.TciNodeData.{TciNodeData}
 use Rattle.table.specs.declared.context.Context.{Context}
 use Rattle.table.specs.declared.state.State.{State}
-use Rattle.image.specs.Fits.{Run, FitsTci, FitsContext}
-use Rattle.image.specs.Context.{contextSize, decodeTci, decodeContext, contextAnswer, encodeTci, encodeLast, encodeContext}
+use Rattle.image_context.specs.Fits.{Run, FitsTci, FitsContext}
+use Rattle.image_context.specs.Context.{contextSize, decodeTci, decodeContext, contextAnswer, encodeTci, encodeLast, encodeContext}
+use Rattle.image_context.proofs.Fields.{byte-type, byte-state}
+use Rattle.image_context.proofs.Writing.{length-context}
 use Rattle.image.specs.State.{contextsAt, supportAt, stateSize, slotBytes, slotIn, decodeState, readableOf, encodeState}
-use Rattle.image.proofs.Fields.{byte-type, byte-state}
 use Rattle.image.proofs.Reading.{state-slot, readable-size, readable-good, good-readable}
-use Rattle.image.proofs.Writing.{length-context}
 use Rattle.image.proofs.RoundTrip.{state-back, context-again, context-reads}
 
 -- ---- bytes put into slot j, from its byte k on

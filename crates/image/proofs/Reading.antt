@@ -22,8 +22,8 @@ use Rattle.wire.specs.Le.{part, le}
 use Rattle.table.specs.declared.context.Context.{Context}
 use Rattle.table.specs.declared.state.State.{State}
 use Rattle.table.specs.Context.{slotOf, noContext}
-use Rattle.image.specs.Context.{contextAnswer, blankContext}
-use Rattle.image.proofs.Fields.{first-done, good-done, done-good}
+use Rattle.image_context.specs.Context.{contextAnswer, blankContext}
+use Rattle.image_context.proofs.Fields.{first-done, good-done, done-good}
 use Rattle.image.specs.State.{supportAt, stateSize, slotBytes, slotIn, decodeState, slotsAnswer, readableOf, goodSlot, isReadable, blankState, stateBeside, readState}
 
 -- ---- the sizes and offsets that document 01 names

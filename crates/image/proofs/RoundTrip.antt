@@ -20,14 +20,16 @@ use Rattle.table.proofs.state.State.{the-row}
 use Rattle.table.specs.declared.tci.TciNodeData.{TciNodeData}
 use Rattle.table.specs.declared.context.Context.{Context}
 use Rattle.table.specs.declared.state.State.{State}
+use Rattle.image_context.specs.Fits.{FitsTci, FitsContext}
+use Rattle.image_context.specs.Context.{contextSize, typeByteIn, stateByteIn, decodeTci, decodeContext, contextAnswer, encodeTci, encodeLast, encodeContext}
+use Rattle.image_context.proofs.Fields.{type-byte, state-byte, byte-type, byte-state, done-bytes, bytes-done}
+use Rattle.image_context.proofs.Writing.{length-context}
 use Rattle.image.specs.declared.state.StateRead.{StateRead}
-use Rattle.image.specs.Fits.{FitsTci, FitsContext, Fits}
-use Rattle.image.specs.Context.{contextSize, typeByteIn, stateByteIn, decodeTci, decodeContext, contextAnswer, encodeTci, encodeLast, encodeContext}
+use Rattle.image.specs.Fits.{Fits}
 use Rattle.image.specs.State.{contextsAt, supportAt, stateSize, slotBytes, slotIn, decodeState, readableOf, readState, encodeSlots, encodeState, written}
-use Rattle.image.proofs.Fields.{type-byte, state-byte, byte-type, byte-state, done-bytes, bytes-done}
 use Rattle.image.proofs.Owned.{owned-fits}
 use Rattle.image.proofs.Reading.{readable-size, readable-good, good-readable, read-done}
-use Rattle.image.proofs.Writing.{encodeSlots-snoc, length-context, length-all, length-state, write-whole}
+use Rattle.image.proofs.Writing.{encodeSlots-snoc, length-all, length-state, write-whole}
 
 -- ---- read, then write
 

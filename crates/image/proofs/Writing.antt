@@ -1,4 +1,4 @@
--- Laws of writing: how long what is written is, and that fields written one after the other are the whole. Assumes nothing.
+-- Laws of writing a whole table: how long what is written is, and that fields written one after the other are the whole. Assumes nothing.
 use mathlib.Core.Path.{_≡_, refl, sym, ap, _∙_}
 use mathlib.Core.List.{List, [], _∷_, _++_, append-assoc, append-nil}
 use Prim.Native.Nat.{ℕ, zero, suc, _+_, _*_, _≤_, _<_}
@@ -16,22 +16,15 @@ use Rattle.wire.specs.Le.{leBytes, put}
 use Rattle.wire.proofs.Put.{Wrote, wrote-more, length-put, put-nil, put-mid, put-next, put-sets, put-all}
 use Rattle.wire.proofs.Le.{length-leBytes}
 use Rattle.table.specs.Context.{slotOf, noContext}
-use Rattle.table.specs.declared.tci.TciNodeData.{TciNodeData}
 use Rattle.table.specs.declared.context.Context.{Context}
 use Rattle.table.specs.declared.state.State.{State}
-use Rattle.image.specs.Fits.{FitsTci, FitsContext, Fits}
-use Rattle.image.specs.Context.{contextSize, encodeTci, encodeLast, encodeContext}
+use Rattle.image_context.specs.Fits.{FitsContext}
+use Rattle.image_context.specs.Context.{contextSize, encodeContext}
+use Rattle.image_context.proofs.Writing.{length-context}
+use Rattle.image.specs.Fits.{Fits}
 use Rattle.image.specs.State.{contextsAt, supportAt, stateSize, encodeSlots, encodeState, writeAnswer, written}
 
 -- ---- lengths
-
-pub length-tci : (t : TciNodeData) → FitsTci t → length (encodeTci t) ≡ 108
-unfolding encodeTci
-length-tci t f = simp (length-append, length-leBytes) (omega (arith, f .cumulative .size, f .current .size))
-
-pub length-context : (c : Context) → FitsContext c → length (encodeContext c) ≡ contextSize
-unfolding encodeContext encodeLast
-length-context c f = simp (length-append, length-leBytes) (omega (arith, f .handle .size, length-tci (c .tci) (f .tci)))
 
 pub length-slots : (cs : List Context) (i : ℕ) → i ≤ length cs → ((j : ℕ) → j < length cs → FitsContext (slotOf cs j)) → length (encodeSlots (take i cs)) ≡ contextSize * i
 unfolding encodeSlots
@@ -51,31 +44,6 @@ length-all t f =
 pub length-state : (t : State) → Fits t → length (encodeState t) ≡ stateSize
 unfolding encodeState
 length-state t f = simp (length-append, length-leBytes) (omega (arith, length-all t f))
-
--- ---- one context
-
-pub tci-put : (t : TciNodeData) (l : List ℕ) {l₁ l₂ l₃ l₄ l₅ : List ℕ} → FitsTci t → length l ≡ contextSize
-    → l₁ ≡ put 16 (leBytes 4 (t .«tci_type»)) l → l₂ ≡ put 20 (t .«tci_cumulative») l₁ → l₃ ≡ put 68 (t .«tci_current») l₂
-    → l₄ ≡ put 116 (leBytes 4 (t .locality)) l₃ → l₅ ≡ put 120 (leBytes 4 (t .svn)) l₄ → l₅ ≡ put 16 (encodeTci t) l
-unfolding encodeTci
-tci-put t l f n p₁ p₂ p₃ p₄ p₅ =
-    let w₁ : Wrote 16 4 (leBytes 4 (t .«tci_type»)) l _ = record { size = length-leBytes 4 _; bytes = p₁ } in
-    let w₂ = wrote-more 16 4 48 (t .«tci_cumulative») (omega arith) w₁ (f .cumulative .size) p₂ in
-    let w₃ = wrote-more 16 52 48 (t .«tci_current») (omega arith) w₂ (f .current .size) p₃ in
-    let w₄ = wrote-more 16 100 4 (leBytes 4 (t .locality)) (omega arith) w₃ (length-leBytes 4 _) p₄ in
-    wrote-more 16 104 4 (leBytes 4 (t .svn)) (omega arith) w₄ (length-leBytes 4 _) p₅ .bytes
-
-pub context-put : (c : Context) (l : List ℕ) {l₁ l₂ l₃ l₄ l₅ : List ℕ} → FitsContext c → length l ≡ contextSize
-    → l₁ ≡ put 0 (c .handle) l → l₂ ≡ put 16 (encodeTci (c .tci)) l₁ → l₃ ≡ put 124 (leBytes 8 (c .children)) l₂
-    → l₄ ≡ put 132 (leBytes 4 (c .locality)) l₃ → l₅ ≡ put 136 (encodeLast c) l₄ → l₅ ≡ encodeContext c
-unfolding encodeContext encodeLast
-context-put c l f n p₁ p₂ p₃ p₄ p₅ =
-    let w₁ : Wrote 0 16 (c .handle) l _ = record { size = f .handle .size; bytes = p₁ } in
-    let w₂ = wrote-more 0 16 108 (encodeTci (c .tci)) (omega arith) w₁ (length-tci (c .tci) (f .tci)) p₂ in
-    let w₃ = wrote-more 0 124 8 (leBytes 8 (c .children)) (omega arith) w₂ (length-leBytes 8 _) p₃ in
-    let w₄ = wrote-more 0 132 4 (leBytes 4 (c .locality)) (omega arith) w₃ (length-leBytes 4 _) p₄ in
-    let w₅ = wrote-more 0 136 8 (encodeLast c) (omega arith) w₄ refl p₅ in
-    w₅ .bytes ∙ put-all _ l (w₅ .size ∙ sym n)
 
 -- ---- the contexts
 

@@ -1,4 +1,3 @@
 -- What the contracts of image, and of the crates above it, cite.
-pub mod Context
 pub mod State
 pub mod Fits

@@ -14,7 +14,7 @@ use Rattle.children.specs.Marks.{slotCount}
 use Rattle.wire.specs.Le.{part, le, leBytes}
 use Rattle.table.specs.declared.context.Context.{Context}
 use Rattle.table.specs.declared.state.State.{State}
-use Rattle.image.specs.Context.{contextSize, decodeContext, first, contextAnswer, isGood, encodeContext}
+use Rattle.image_context.specs.Context.{contextSize, decodeContext, first, contextAnswer, isGood, encodeContext}
 use Rattle.image.specs.declared.state.StateRead.{StateRead}
 
 -- where the contexts start

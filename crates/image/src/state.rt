@@ -1,5 +1,4 @@
 // The whole state image.
-use crate::context;
 use children::MAX_HANDLES;
 use error::AddedErrorCode;
 use error::DpeErrorCode;
@@ -20,7 +19,7 @@ pub const VERSION_AT: usize = 4;
 
 pub const CONTEXTS_AT: usize = 8;
 
-pub const SUPPORT_AT: usize = CONTEXTS_AT + context::SIZE * MAX_HANDLES;
+pub const SUPPORT_AT: usize = CONTEXTS_AT + image_context::SIZE * MAX_HANDLES;
 
 const FLAGS_AT: usize = SUPPORT_AT + 4;
 
@@ -43,9 +42,9 @@ fn are_good(image: &[u8]) -> bool
 {
     let mut kinds: u32 = 0;
     for i in 0..MAX_HANDLES {
-        kinds = kinds | context::kind_at(image, CONTEXTS_AT + context::SIZE * i);
+        kinds = kinds | image_context::kind_at(image, CONTEXTS_AT + image_context::SIZE * i);
     }
-    context::are_good_kinds(kinds)
+    image_context::are_good_kinds(kinds)
 }
 
 // Whether the image reads. `readable` says why one does not.
@@ -66,7 +65,7 @@ pub fn readable(image: &[u8]) -> Outcome
         return Outcome::Refused(DpeErrorCode::Added(AddedErrorCode::BadLength));
     }
     for slot in 0..MAX_HANDLES {
-        let answer = context::answer_at(image, CONTEXTS_AT + context::SIZE * slot);
+        let answer = image_context::answer_at(image, CONTEXTS_AT + image_context::SIZE * slot);
         let Outcome::Done = answer else {
             return answer;
         };
@@ -79,12 +78,12 @@ fn read_contexts(image: &[u8]) -> [Context; MAX_HANDLES]
     requires { ⌜ length (now image) ≡ stateSize ⌝ }
     ensures { λ r. ⌜ r ≡ listOf (slotIn (now (image .entry))) slotCount ⌝ }
 {
-    let empty = context::blank();
+    let empty = image_context::blank();
     let mut contexts = [empty; MAX_HANDLES];
     for i in 0..MAX_HANDLES {
-        let a = CONTEXTS_AT + context::SIZE * i;
-        let e = a + context::SIZE;
-        let c = context::read_context(&image[a..e]);
+        let a = CONTEXTS_AT + image_context::SIZE * i;
+        let e = a + image_context::SIZE;
+        let c = image_context::read_context(&image[a..e]);
         contexts[i] = c;
     }
     contexts
@@ -117,7 +116,7 @@ fn read_whole(image: &[u8]) -> State
 fn blank() -> State
     ensures { λ r. ⌜ r ≡ blankState ⌝ }
 {
-    let empty = context::blank();
+    let empty = image_context::blank();
     let contexts = [empty; MAX_HANDLES];
     State {
         marker: 0,
@@ -149,10 +148,10 @@ fn write_contexts(state: State, out: &mut [u8])
     ensures { λ _. ⌜ now (out .exit) ≡ put contextsAt (encodeSlots (state .contexts)) (now (out .entry)) ⌝ }
 {
     for i in 0..MAX_HANDLES {
-        let a = CONTEXTS_AT + context::SIZE * i;
-        let e = a + context::SIZE;
+        let a = CONTEXTS_AT + image_context::SIZE * i;
+        let e = a + image_context::SIZE;
         let c = state.contexts[i];
-        context::write_context(&mut out[a..e], c);
+        image_context::write_context(&mut out[a..e], c);
     }
 }
 

@@ -14,8 +14,8 @@ use Rattle.children.proofs.Cases.{two, ltb-true}
 use Rattle.table.specs.declared.state.Found.{Found}
 use Rattle.table.specs.declared.state.Found.the-variants.{At, Refused}
 use Rattle.links.specs.Summary.{numberIn}
-use Rattle.walks.specs.declared.path.Path.{Path}
-use Rattle.walks.specs.Path.{slotsOf, slotsPlace}
+use Rattle.walks_path.specs.declared.Path.{Path}
+use Rattle.walks_path.specs.Path.{slotsOf, slotsPlace}
 
 -- a refusal has met no slots
 pub met-none : (up : ℕ → ℕ) (l : List ℕ) {f : Found} {e : DpeErrorCode} → f ≡ Refused e → (k : ℕ) → f ≡ At k → take k l ≡ listOf up k

@@ -13,10 +13,10 @@ use Rattle.table.specs.declared.context.Context.{Context}
 use Rattle.table.specs.Context.{slotOf, sameState}
 use Rattle.table.specs.State.{inState}
 use Rattle.table.specs.Bytes.{handleSize}
-use Rattle.image.specs.Context.{contextSize, stateOf, stateByteIn, decodeContext}
+use Rattle.image_context.specs.Context.{contextSize, stateOf, stateByteIn, decodeContext}
 use Rattle.image.specs.State.{contextsAt, supportAt, slotBytes, slotIn, decodeState, readableOf}
 use Rattle.image.proofs.Reading.{state-slot, readable-good}
-use Rattle.image.proofs.Fields.{same-byte, done-bytes}
+use Rattle.image_context.proofs.Fields.{same-byte, done-bytes}
 use Rattle.view.specs.declared.SlotFields.{SlotFields}
 use Rattle.view.specs.View.{fieldsOf}
 use Rattle.view.proofs.Fields.{state-fields}

@@ -2,9 +2,9 @@
 use crate::slot;
 use children::MAX_HANDLES;
 use error::DpeErrorCode;
-use image::context::SIZE;
-use image::context::STATE_AT;
 use image::state::CONTEXTS_AT;
+use image_context::SIZE;
+use image_context::STATE_AT;
 use table::context;
 use table::handle;
 use table::state::Found;
@@ -15,7 +15,7 @@ ghost use Rattle.error.specs.declared.Outcome.the-variants.{Done};
 ghost use Rattle.children.specs.Marks.{slotCount};
 ghost use Rattle.table.specs.Context.{slotOf};
 ghost use Rattle.table.specs.State.{countIn, freeIn};
-ghost use Rattle.image.specs.Context.{stateOf};
+ghost use Rattle.image_context.specs.Context.{stateOf};
 ghost use Rattle.image.specs.State.{stateSize, decodeState, readableOf};
 ghost use Rattle.lookup.specs.Lookup.{lookupIn};
 

@@ -5,7 +5,6 @@ use error::DpeErrorCode;
 use error::InternalErrorCode;
 use table::context::ROOT_INDEX;
 use table::state::Found;
-use walks::path;
 use walks::run;
 ghost use mathlib.Core.Path.{_≡_};
 ghost use Prim.Native.Nat.{ℕ, _≤_};
@@ -15,7 +14,7 @@ ghost use Rattle.children.specs.Marks.{slotCount};
 ghost use Rattle.table.specs.Context.{slotOf};
 ghost use Rattle.image.specs.State.{stateSize, decodeState};
 ghost use Rattle.links.specs.Summary.{liveAt, parentAt, numberIn, stepsUp};
-ghost use Rattle.walks.specs.Path.{parentOf, lengthFrom, slotsOf, pathIn, slotsPlace};
+ghost use Rattle.walks_path.specs.Path.{parentOf, lengthFrom, slotsOf, pathIn, slotsPlace};
 
 // The parent of a slot that may stand on a path.
 fn parent_of(image: &[u8], slot: usize) -> Found
@@ -50,7 +49,7 @@ fn climbed(image: &[u8], slot: usize, up: &mut [u8; MAX_HANDLES]) -> Found
         let Found::At(p) = f else {
             return f;
         };
-        up[j] = path::byte(x);
+        up[j] = walks_path::byte(x);
         if p == run::index(ROOT_INDEX) {
             return Found::At(j + 1);
         }

@@ -1,5 +1,4 @@
 // One slot of a lent image.
-use image::context;
 use image::state;
 use table::context::Context;
 use table::context::ContextState;
@@ -30,7 +29,7 @@ pub fn handle_at(image: &[u8], slot: usize) -> [u8; handle::SIZE]
 {
     wire::read_16(
         image,
-        state::CONTEXTS_AT + context::SIZE * slot + context::HANDLE_AT,
+        state::CONTEXTS_AT + image_context::SIZE * slot + image_context::HANDLE_AT,
     )
 }
 
@@ -77,7 +76,7 @@ pub fn context_at(image: &[u8], slot: usize) -> Context
     requires { ⌜ (length (now image) ≡ stateSize) × (slot < slotCount) ⌝ }
     ensures { λ r. ⌜ r ≡ slotOf (decodeState (now (image .entry)) .contexts) slot ⌝ }
 {
-    let a = state::CONTEXTS_AT + context::SIZE * slot;
-    let e = a + context::SIZE;
-    context::read_context(&image[a..e])
+    let a = state::CONTEXTS_AT + image_context::SIZE * slot;
+    let e = a + image_context::SIZE;
+    image_context::read_context(&image[a..e])
 }

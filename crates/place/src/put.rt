@@ -1,5 +1,4 @@
 // One field or one slot of a lent image, written where it lies; all else stays.
-use image::context;
 use image::state;
 use table::context::Context;
 use table::handle;
@@ -18,7 +17,7 @@ pub fn put_handle(image: &mut [u8], slot: usize, handle: [u8; handle::SIZE])
     requires { ⌜ (readableOf (now image) ≡ Done) × (slot < slotCount) ⌝ }
     ensures { λ _. ⌜ Holds (now (image .exit)) (withSlot (decodeState (now (image .entry))) slot (withHandle (slotOf (decodeState (now (image .entry)) .contexts) slot) handle)) ⌝ }
 {
-    let at = state::CONTEXTS_AT + context::SIZE * slot + context::HANDLE_AT;
+    let at = state::CONTEXTS_AT + image_context::SIZE * slot + image_context::HANDLE_AT;
     wire::write_run(image, at, &handle);
 }
 
@@ -27,7 +26,7 @@ pub fn put_children(image: &mut [u8], slot: usize, children: u64)
     requires { ⌜ (readableOf (now image) ≡ Done) × (slot < slotCount) ⌝ }
     ensures { λ _. ⌜ Holds (now (image .exit)) (withSlot (decodeState (now (image .entry))) slot (withChildren (slotOf (decodeState (now (image .entry)) .contexts) slot) children)) ⌝ }
 {
-    let at = state::CONTEXTS_AT + context::SIZE * slot + context::CHILDREN_AT;
+    let at = state::CONTEXTS_AT + image_context::SIZE * slot + image_context::CHILDREN_AT;
     wire::write_u64(image, at, children);
 }
 
@@ -36,9 +35,9 @@ pub fn put_context(image: &mut [u8], slot: usize, c: Context)
     requires { ⌜ (readableOf (now image) ≡ Done) × (slot < slotCount) ⌝ }
     ensures { λ _. ⌜ Holds (now (image .exit)) (withSlot (decodeState (now (image .entry))) slot c) ⌝ }
 {
-    let a = state::CONTEXTS_AT + context::SIZE * slot;
-    let e = a + context::SIZE;
-    context::write_context(&mut image[a..e], c);
+    let a = state::CONTEXTS_AT + image_context::SIZE * slot;
+    let e = a + image_context::SIZE;
+    image_context::write_context(&mut image[a..e], c);
 }
 
 // The table marked as initialised.

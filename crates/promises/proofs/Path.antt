@@ -1,5 +1,5 @@
 -- The path from a yes refuses no live slot. Assumes nothing.
-use mathlib.Core.Path.{_≡_, refl, sym, ap, _∙_}
+use mathlib.Core.Path.{_≡_, sym, ap, _∙_}
 use mathlib.Core.Bool.{true}
 use Prim.Native.Nat.{ℕ, zero, suc, _+_, _-_, _≤_, _<_}
 use native.Mathlib.Omega.{arith}
@@ -16,8 +16,8 @@ use Rattle.table.specs.Context.{noParent, slotOf}
 use Rattle.forest.specs.Links.{Linked, up}
 use Rattle.forest.proofs.Links.{up-in, no-slot, live-below, near-iff}
 use Rattle.links.specs.Summary.{liveAt, parentAt, stepsUp, tableOf}
-use Rattle.walks.specs.Path.{lengthFrom, slotsOf, pathOf, pathIn}
-use Rattle.walks.proofs.Steps.{parent-slot, parent-none, length-root, length-on}
+use Rattle.walks_path.specs.Path.{lengthFrom, slotsOf, pathOf, pathIn}
+use Rattle.walks_path.proofs.Steps.{parent-slot, parent-none, length-root, length-on}
 use Rattle.verdict.specs.Tests.{Header, headerOf}
 use Rattle.verdict.specs.Rule.{Live, ancestor, ForestRule, Forest}
 use Rattle.verdict.proofs.Trees.{live-is, parent-is, ancestor-is}

@@ -18,9 +18,9 @@ use Rattle.table.specs.declared.state.Found.the-variants as found
 use Rattle.table.specs.Bytes.{defaultHandle}
 use Rattle.table.specs.Context.{noParent, destroyed, withChildren, slotOf}
 use Rattle.lookup.specs.Lookup.{lookupIn}
-use Rattle.walks.specs.declared.path.Path.{Path}
+use Rattle.walks_path.specs.declared.Path.{Path}
 use Rattle.walks.specs.Walks.{descendantsIn}
-use Rattle.walks.specs.Path.{pathIn}
+use Rattle.walks_path.specs.Path.{pathIn}
 use Rattle.initialize_context.specs.Initialize.{initializedOf}
 use Rattle.rotate_context.specs.Rotate.{rotatedOf}
 use Rattle.destroy_context.specs.Destroy.{destroyOf}

@@ -170,8 +170,8 @@ fn put(t: State) {
 fn put_bad_state(t: State) {
     let mut image = [0u8; image::state::SIZE];
     image::state::write_state(t, &mut image);
-    let at = image::state::CONTEXTS_AT + image::context::SIZE * BAD_SLOT;
-    image[at + image::context::STATE_AT] = BAD_STATE;
+    let at = image::state::CONTEXTS_AT + image_context::SIZE * BAD_SLOT;
+    image[at + image_context::STATE_AT] = BAD_STATE;
     io::write_all(STDOUT_FILENO, &image);
 }
 

@@ -18,10 +18,10 @@ use Rattle.table.specs.declared.context.Context.{Context}
 use Rattle.table.specs.declared.state.State.{State}
 use Rattle.table.specs.Context.{slotOf, isInactive}
 use Rattle.image.specs.declared.state.StateRead.{StateRead}
-use Rattle.image.specs.Context.{stateByte, typeByte, first}
+use Rattle.image_context.specs.Context.{stateByte, typeByte, first}
 use Rattle.image.specs.Fits.{Fits}
 use Rattle.image.specs.State.{stateSize, decodeState, readableOf, encodeState}
-use Rattle.image.proofs.Fields.{first-done}
+use Rattle.image_context.proofs.Fields.{first-done}
 use Rattle.image.proofs.Reading.{readable-size, read-answer}
 use Rattle.image.proofs.RoundTrip.{state-again, write-read}
 use Rattle.verdict.specs.Tests.{verdictOf, outcomeOf}

@@ -12,7 +12,7 @@ use Rattle.children.specs.Marks.{slotCount, countBelow}
 use Rattle.wire.specs.Le.{put}
 use Rattle.table.specs.declared.context.Context.{Context}
 use Rattle.table.specs.Context.{slotOf, isInactive}
-use Rattle.image.specs.Context.{stateByte, typeByte}
+use Rattle.image_context.specs.Context.{stateByte, typeByte}
 use Rattle.image.specs.State.{decodeState}
 use Rattle.view.specs.declared.SlotFields.{SlotFields}
 use Rattle.view.specs.View.{fieldsOf}

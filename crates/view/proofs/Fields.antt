@@ -10,7 +10,7 @@ use Rattle.wire.proofs.Part.{part-part, getD-part}
 use Rattle.table.specs.Context.{slotOf}
 use Rattle.table.specs.declared.context.ContextState.{ContextState}
 use Rattle.table.specs.declared.context.ContextType.{ContextType}
-use Rattle.image.specs.Context.{contextSize, stateOf, typeOf, decodeContext}
+use Rattle.image_context.specs.Context.{contextSize, stateOf, typeOf, decodeContext}
 use Rattle.image.specs.State.{contextsAt, slotIn, decodeState}
 use Rattle.image.proofs.Reading.{state-slot}
 use Rattle.view.specs.declared.SlotFields.{SlotFields}

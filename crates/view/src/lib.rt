@@ -1,7 +1,6 @@
 // A view of the lent image: the fields of a slot, read where they lie. No context is built.
 // `fields_at` does the work on the slice; the functions over the struct only take it apart or make it, and are proved by hand. Whoever calls
 // `slot_fields` has plain parameters, and needs no such proof.
-use image::context;
 use image::state;
 use table::context::ContextState;
 use table::context::ContextType;
@@ -31,12 +30,12 @@ pub fn fields_at(image: &[u8], slot: usize) -> SlotFields
     requires { ⌜ (length (now image) ≡ stateSize) × (slot < slotCount) ⌝ }
     ensures { λ r. ⌜ r ≡ fieldsOf (slotIn (now (image .entry)) slot) ⌝ }
 {
-    let at = state::CONTEXTS_AT + context::SIZE * slot;
-    let children = wire::read_u64(image, at + context::CHILDREN_AT);
-    let locality = wire::read_u32(image, at + context::LOCALITY_AT);
-    let parent_idx = image[at + context::PARENT_IDX_AT];
-    let context_type = context::type_of(image[at + context::CONTEXT_TYPE_AT]);
-    let state = context::state_of(image[at + context::STATE_AT]);
+    let at = state::CONTEXTS_AT + image_context::SIZE * slot;
+    let children = wire::read_u64(image, at + image_context::CHILDREN_AT);
+    let locality = wire::read_u32(image, at + image_context::LOCALITY_AT);
+    let parent_idx = image[at + image_context::PARENT_IDX_AT];
+    let context_type = image_context::type_of(image[at + image_context::CONTEXT_TYPE_AT]);
+    let state = image_context::state_of(image[at + image_context::STATE_AT]);
     SlotFields {
         state,
         context_type,

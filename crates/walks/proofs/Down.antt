@@ -11,16 +11,11 @@ use Rattle.error.specs.declared.DpeErrorCode.the-variants.{Added}
 use Rattle.error.specs.declared.AddedErrorCode.the-variants.{WalkLoops}
 use Rattle.children.specs.declared.Answer.the-variants.{Marks, Refused}
 use Rattle.children.specs.Below.{lowestFrom}
-use Rattle.children.specs.Marks.{marked, hasBelow, with, joined, nextBelow}
+use Rattle.children.specs.Marks.{marked, with, joined, nextBelow}
 use Rattle.children.proofs.Below.{low-ge, low-le, low-bare, low-passes}
 use Rattle.children.proofs.Cases.{two}
-use Rattle.children.proofs.Marks.{has-is}
 use Rattle.forest.specs.Walk.{Answer, loops, bad, ok, both, over, walkDown}
 use Rattle.walks.specs.Walks.{toldOf}
-
--- a mark that `has_child` answered for
-pub seen : (n m k : ℕ) {r b : Bool} → k < n → r ≡ hasBelow n m k → r ≡ b → marked m k ≡ b
-seen n m k h e f = sym (has-is n m k h) ∙ sym e ∙ f
 
 -- ---- what is told
 
@@ -82,9 +77,6 @@ module _ (rec : ℕ → Answer) (m : ℕ) where
         ap (over rec m) q ∙ skip k (lowestFrom (marked m) (n - k) k) w ge (low-bare (marked m) (n - k) k) e,
         λ l. ap (marked m) q ∙ low-passes (marked m) (n - k) k (omega arith),
       )
-
-pub next-after : (n m k : ℕ) {r : ℕ} → r ≡ nextBelow n m k → k ≤ r
-next-after n m k e = let h = low-ge (marked m) (n - k) k in omega arith
 
 -- ---- at a slot
 

@@ -1,6 +1,5 @@
 -- Laws that belong to no one function; callers cite them.
 pub mod Down
 pub mod Up
-pub mod Steps
 pub mod Returns
 pub mod Summary

@@ -1,4 +1,4 @@
--- The walks over a summary are the walks over its table. Assumes nothing.
+-- The walks down and up over a summary are the walks over its table. Assumes nothing.
 use mathlib.Core.Bool.{_&&_}
 use mathlib.Core.Path.{_≡_, ap, ap₂, _∙_}
 use Prim.Native.Nat.{ℕ, _<_}
@@ -16,8 +16,6 @@ use Rattle.links.specs.declared.Links.{Links}
 use Rattle.links.specs.Summary.{liveAt, retiredAt, parentAt, kidsAt, summaryOf, numberIn}
 use Rattle.links.proofs.Summary.{says-live, says-retired, says-parent, says-kids}
 use Rattle.walks.specs.Walks.{toldOf, descendantsIn, runFrom, runIn}
-use Rattle.walks.specs.Path.{pathOf, pathIn}
-use Rattle.walks.proofs.Steps.{path-same}
 
 module _ (s : ℕ → Context) (l : Links) (e : l ≡ summaryOf s) (slot : ℕ) (h : slot < slotCount) where
   pub down-summary : toldOf InvalidHandle (walkDown slotCount (marked (l .live)) (numberIn (l .children)) slotCount 0 slot) ≡ descendantsIn slotCount s slot
@@ -33,6 +31,3 @@ module _ (s : ℕ → Context) (l : Links) (e : l ≡ summaryOf s) (slot : ℕ) 
       ∙ ap (toldOf (InternalError DestroyParentIndexOob)) (climb-same slotCount _ (singleIn slotCount (retiredAt s) (kidsAt s)) _ (parentAt s)
       (λ i k. ap₂ _&&_ (says-retired s l e i k) (ap (λ (m : ℕ). eqb (countBelow slotCount m) 1) (says-kids s l e i k)))
       (λ i k p. says-parent s l e i k) slotCount 0 (parentAt s slot))
-
-pub path-summary : (s : ℕ → Context) (l : Links) → l ≡ summaryOf s → (slot : ℕ) → pathOf slotCount (marked (l .live)) (numberIn (l .parents)) slot ≡ pathIn slotCount s slot
-path-summary s l e slot = path-same slotCount _ (liveAt s) _ (parentAt s) (says-live s l e) (says-parent s l e) slot

@@ -1,7 +1,6 @@
-// The walks over the links of a table: down to all descendants, and up to the root. state.rs and context.rs.
+// The walks over the links of a table: down to all descendants, and up the run above a slot. state.rs and destroy_context.rs.
 // They run over the summary of the links, from mark to mark, and end on every table.
 pub mod descendants;
-pub mod path;
 pub mod run;
 
 use children::Answer;

@@ -4,7 +4,7 @@ use denote.Ref.{now}
 use Rattle.error.specs.Numbers.{wordOf}
 use Rattle.children.proofs.Cases.{not-true, not-false}
 use Rattle.image.proofs.Reading.{readable-size, readable-done, not-readable}
-use Rattle.walks.specs.declared.path.Path.{Path}
+use Rattle.walks_path.specs.declared.Path.{Path}
 use Rattle.duottarok.specs.Exports.{pathAt, lengthAt}
 use Rattle.duottarok.proofs.Exports.{unread-found, read-found, path-refused, path-found}
 use borrow.Author.Needs.{needs}

@@ -8,9 +8,9 @@ use denote.Ref.{now}
 use Rattle.children.specs.Below.{every}
 use Rattle.children.specs.Marks.{slotCount}
 use Rattle.wire.proofs.Part.{getD-part}
-use Rattle.image.specs.Context.{contextSize, typeByteIn, goodWord}
+use Rattle.image_context.specs.Context.{contextSize, typeByteIn, goodWord}
+use Rattle.image_context.proofs.Fields.{good-joined, good-kind}
 use Rattle.image.specs.State.{contextsAt, slotBytes, goodSlot}
-use Rattle.image.proofs.Fields.{good-joined, good-kind}
 use borrow.Author.Needs.{needs}
 use Rattle.image.proofs.state.are_good.Statement.{statement}
 use Rattle.image.proofs.state.are_good.Tie as tie

@@ -10,7 +10,7 @@ use Rattle.children.specs.Marks.{slotCount}
 use lib.ListN.{length, take, length-set}
 use Rattle.children.specs.Below.{listOf}
 use Rattle.children.proofs.Below.{listOf-fill}
-use Rattle.image.specs.Context.{decodeContext}
+use Rattle.image_context.specs.Context.{decodeContext}
 use Rattle.image.specs.State.{slotIn}
 use Rattle.image.proofs.state.read_contexts.Statement.{statement}
 use Rattle.image.proofs.state.read_contexts.Tie as tie

@@ -17,7 +17,7 @@ use Rattle.image.specs.State.{decodeState}
 use Rattle.forest.specs.Walk.{Answer, ok, both, walkDown}
 use Rattle.links.specs.Summary.{liveAt, kidsAt}
 use Rattle.walks.specs.Walks.{toldOf}
-use Rattle.walks.proofs.Down.{seen, child, next-after, told-marks, walk-spent, walk-inactive}
+use Rattle.walks.proofs.Down.{child, told-marks, walk-spent, walk-inactive}
 use Rattle.peek.proofs.Rest.{begins, rest, next-marked, rest-on, rest-none, rest-last, refused-on, on-path, off-path, rest-begins}
 use Rattle.peek.proofs.down.descend.Reads as descend
 use Rattle.peek.proofs.down.descend.Kinds as descend-kinds
@@ -27,6 +27,7 @@ use Rattle.children.proofs.empty.Reads as empty-reads
 use Rattle.children.proofs.has_child.Reads as has-child-reads
 use Rattle.children.proofs.next.Reads as next-reads
 use Rattle.children.proofs.with.Reads as with-reads
+use Rattle.children.proofs.Marks.{seen, next-after}
 use Rattle.peek.proofs.slot.children_at.Reads as children-at-reads
 use Rattle.peek.proofs.slot.is_live.Reads as is-live-reads
 use Rattle.peek.proofs.down.+descend.{statement}

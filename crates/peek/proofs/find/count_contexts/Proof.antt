@@ -10,7 +10,7 @@ use Rattle.children.proofs.Cases.{cases}
 use Rattle.children.proofs.Below.{count-hit, count-miss, count-le}
 use Rattle.table.specs.Context.{slotOf}
 use Rattle.table.specs.State.{inState}
-use Rattle.image.specs.Context.{stateOf}
+use Rattle.image_context.specs.Context.{stateOf}
 use Rattle.image.specs.State.{decodeState}
 use Rattle.image.proofs.Reading.{readable-size}
 use Rattle.peek.proofs.Read.{in-state}

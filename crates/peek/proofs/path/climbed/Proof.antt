@@ -12,8 +12,8 @@ use Rattle.children.proofs.Below.{listOf-fill}
 use Rattle.table.specs.Context.{slotOf}
 use Rattle.image.specs.State.{decodeState}
 use Rattle.links.specs.Summary.{liveAt, parentAt, stepsUp}
-use Rattle.walks.specs.Path.{lengthFrom}
-use Rattle.walks.proofs.Steps.{length-refused, length-root, length-on, length-full, parent-from}
+use Rattle.walks_path.specs.Path.{lengthFrom}
+use Rattle.walks_path.proofs.Steps.{length-refused, length-root, length-on, length-full, parent-from}
 use Rattle.peek.proofs.Climbing.{met-none, met-all}
 use Rattle.peek.proofs.path.climbed.Statement.{statement}
 use Rattle.peek.proofs.path.climbed.Tie as tie

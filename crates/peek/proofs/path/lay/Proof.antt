@@ -6,7 +6,7 @@ use denote.Ref.{now}
 use Rattle.children.specs.Below.{listOf}
 use Rattle.children.specs.Marks.{slotCount}
 use Rattle.links.specs.Summary.{numberIn}
-use Rattle.walks.proofs.Steps.{cell, laid-none, laid-more, laid-all}
+use Rattle.walks_path.proofs.Steps.{cell, laid-none, laid-more, laid-all}
 use Rattle.peek.proofs.path.lay.Statement.{statement}
 use Rattle.peek.proofs.path.lay.Tie as tie
 

@@ -6,7 +6,7 @@ use borrow.Author.Needs.{needs}
 use Rattle.children.specs.Marks.{slotCount}
 use Rattle.children.proofs.Cases.{not-true, not-false}
 use Rattle.table.specs.declared.state.Found.the-variants.{At}
-use Rattle.walks.proofs.Steps.{parent-oob, parent-idle, parent-stray, parent-slot, parent-none}
+use Rattle.walks_path.proofs.Steps.{parent-oob, parent-idle, parent-stray, parent-slot, parent-none}
 use Rattle.peek.proofs.path.parent_of.Statement.{statement}
 use Rattle.peek.proofs.path.parent_of.Tie as tie
 

@@ -6,8 +6,8 @@ use Rattle.children.specs.Marks.{slotCount}
 use Rattle.table.specs.Context.{slotOf}
 use Rattle.image.specs.State.{decodeState}
 use Rattle.links.specs.Summary.{liveAt}
-use Rattle.walks.specs.Path.{slotsOf, pathOf, pathIn}
-use Rattle.walks.proofs.Steps.{climbs}
+use Rattle.walks_path.specs.Path.{slotsOf, pathOf, pathIn}
+use Rattle.walks_path.proofs.Steps.{climbs}
 use Rattle.peek.proofs.Climbing.{laid-same, slots-kept, slots-laid}
 use Rattle.peek.proofs.path.root_to_leaf.Statement.{statement}
 use Rattle.peek.proofs.path.root_to_leaf.Tie as tie

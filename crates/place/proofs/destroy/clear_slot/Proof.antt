@@ -3,11 +3,11 @@ use mathlib.Core.Path.{sym, ap, _∙_}
 use Prim.Native.Nat.{ℕ}
 use denote.Ref.{now}
 use Rattle.children.specs.Marks.{slotCount, without}
+use Rattle.children.proofs.Marks.{seen}
 use Rattle.table.specs.Context.{slotOf, destroyed, withChildren}
 use Rattle.table.specs.State.{withSlot}
 use Rattle.image.specs.State.{decodeState}
 use Rattle.image.proofs.Reading.{readable-size}
-use Rattle.walks.proofs.Down.{seen}
 use Rattle.place.proofs.After.{cleared-in, cleared-out, marks-kept}
 use borrow.Author.Needs.{needs}
 use Rattle.place.proofs.destroy.clear_slot.Statement.{statement}

@@ -8,11 +8,11 @@ use lib.ListN.{length}
 use borrow.Rule.Slice.PartMut.{putMid}
 use Rattle.wire.specs.Le.{put}
 use Rattle.wire.proofs.Put.{put-mid}
-use Rattle.image.proofs.Writing.{length-context}
-use Rattle.image.specs.Context.{contextSize}
+use Rattle.image_context.proofs.Writing.{length-context}
+use Rattle.image_context.specs.Context.{contextSize}
 use Rattle.image.specs.State.{contextsAt}
 use Rattle.image.proofs.Reading.{readable-size}
-use Rattle.image.proofs.Owned.{context-fits}
+use Rattle.image_context.proofs.Owned.{context-fits}
 use Rattle.image.proofs.InPlace.{image-of, context-in-place}
 use Rattle.place.proofs.After.{bytes-known, holds}
 use borrow.Author.Needs.{needs}

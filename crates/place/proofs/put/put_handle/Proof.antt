@@ -6,7 +6,7 @@ use native.Mathlib.Omega.{arith}
 use denote.Ref.{now}
 use Rattle.wire.specs.Le.{put}
 use Rattle.image.proofs.Reading.{readable-size}
-use Rattle.image.proofs.Owned.{array-run}
+use Rattle.image_context.proofs.Owned.{array-run}
 use Rattle.image.proofs.InPlace.{image-of, handle-in-place}
 use Rattle.place.proofs.After.{bytes-known, holds}
 use borrow.Author.Needs.{needs}

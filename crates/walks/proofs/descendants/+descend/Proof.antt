@@ -14,7 +14,7 @@ use Rattle.children.proofs.Cases.{not-true, not-false}
 use Rattle.forest.specs.Walk.{loops, ok, over, walkDown}
 use Rattle.links.specs.Summary.{numberIn}
 use Rattle.walks.specs.Walks.{toldOf}
-use Rattle.walks.proofs.Down.{seen, child, Turn, turn-on, next-after, told-marks, over-joined, over-loops, over-refused, walk-spent, walk-inactive, walk-over}
+use Rattle.walks.proofs.Down.{child, Turn, turn-on, told-marks, over-joined, over-loops, over-refused, walk-spent, walk-inactive, walk-over}
 use Rattle.walks.proofs.descendants.descend.Reads as descend
 use Rattle.walks.proofs.descendants.descend.Kinds as descend-kinds
 use Rattle.walks.proofs.descendants.+descend.Lts-descend as descend-lts
@@ -22,6 +22,7 @@ use Rattle.children.proofs.add_children.Reads as add-children-reads
 use Rattle.children.proofs.has_child.Reads as has-child-reads
 use Rattle.children.proofs.next.Reads as next-reads
 use Rattle.children.proofs.with.Reads as with-reads
+use Rattle.children.proofs.Marks.{seen, next-after}
 use Rattle.walks.proofs.descendants.+descend.{statement}
 use Rattle.walks.proofs.descendants.+descend.Tie.{close}
 

@@ -6,10 +6,10 @@ use borrow.Author.Needs.{needs}
 use denote.Ref.{now}
 use Rattle.children.specs.Marks.{slotCount, marked, with, countBelow}
 use Rattle.children.proofs.Cases.{not-true, not-false}
+use Rattle.children.proofs.Marks.{seen}
 use Rattle.forest.specs.Run.{singleIn, climb}
 use Rattle.links.specs.Summary.{numberIn}
 use Rattle.walks.specs.Walks.{toldOf, runFrom}
-use Rattle.walks.proofs.Down.{seen}
 use Rattle.walks.proofs.Up.{climb-top, climb-out, climb-ends, climb-goes, climb-spent, climb-moved, single-yes, single-other, single-many}
 use Rattle.walks.proofs.run.run_above.Statement.{statement}
 use Rattle.walks.proofs.run.run_above.Tie as tie

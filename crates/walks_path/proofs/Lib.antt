@@ -1,0 +1,3 @@
+-- Laws that belong to no one function; callers cite them.
+pub mod Steps
+pub mod Summary
