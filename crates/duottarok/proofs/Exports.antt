@@ -14,7 +14,6 @@ use Rattle.table.specs.declared.state.Found.the-variants as found
 use Rattle.table.specs.declared.state.NewHandle.{NewHandle}
 use Rattle.destroy_context.specs.declared.Destroyed.{Destroyed}
 use Rattle.image_context.specs.Context.{first}
-use Rattle.walks_path.specs.Path.{slotsPlace}
 use Rattle.duottarok.specs.Exports.{foundWord, foundPlace, marksWord, marksPlace, foundAfter, marksAfter, handleAfter, destroyAfter, handlePlace}
 
 -- ---- what a call says after reading: the reading's refusal, or its own answer
@@ -77,12 +76,3 @@ module _ (n : NewHandle) (old : List ℕ) where
 
   pub given : (h : List ℕ) → n .answer ≡ Done → h ≡ n .handle → h ≡ handlePlace n old
   given h q e = rw q e
-
--- ---- a path, or a refusal
-
-module _ (f : Found) (new slots : List ℕ) (w old : ℕ) where
-  pub path-refused : (x : DpeErrorCode) → f ≡ found.Refused x → w ≡ wordOf (Refused x) → (w ≡ foundWord f) × ((slots ≡ slotsPlace f new slots) × (old ≡ foundPlace f old))
-  path-refused x q e = (e ∙ sym (ap foundWord q), (rw q, rw q))
-
-  pub path-found : (k : ℕ) (all : List ℕ) → f ≡ found.At k → w ≡ k → all ≡ new → (0 ≡ foundWord f) × ((all ≡ slotsPlace f new slots) × (w ≡ foundPlace f old))
-  path-found k all q e i = (sym (ap foundWord q), (rw q i, rw q e))

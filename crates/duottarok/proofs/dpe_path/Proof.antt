@@ -3,10 +3,11 @@ use mathlib.Core.Path.{sym, ap, _∙_}
 use denote.Ref.{now}
 use Rattle.error.specs.Numbers.{wordOf}
 use Rattle.children.proofs.Cases.{not-true, not-false}
+use Rattle.table.specs.declared.state.Found.{Found}
 use Rattle.image.proofs.Reading.{readable-size, readable-done, not-readable}
-use Rattle.walks_path.specs.declared.Path.{Path}
+use Rattle.walks_path.specs.Path.{slotsPlace}
 use Rattle.duottarok.specs.Exports.{pathAt, lengthAt}
-use Rattle.duottarok.proofs.Exports.{unread-found, read-found, path-refused, path-found}
+use Rattle.duottarok.proofs.Exports.{unread-found, read-found, found-refused, found-at}
 use borrow.Author.Needs.{needs}
 use Rattle.duottarok.proofs.dpe_path.Statement.{statement}
 use Rattle.duottarok.proofs.dpe_path.Tie as tie
@@ -24,19 +25,21 @@ returns : tie.Need-returns
 returns c =
     let a = c .before .before .before .before .before .args in
     let x = not-readable (now (a .image)) (sym (c .before .before .before .is-readable .ensures) ∙ not-true _ (c .before .before .if1 .taken)) in
-    path-refused (lengthAt (now (a .image)) (a .slot)) (pathAt (now (a .image)) (a .slot) .slots) (now (a .slots)) _ (now (a .length)) _ (unread-found _ _ (x .1) _) (c .word .ensures ∙ ap wordOf (c .before .readable .ensures ∙ x .1))
+    let q = unread-found _ _ (x .1) (pathAt (now (a .image)) (a .slot) .length) in
+    let p = found-refused (lengthAt (now (a .image)) (a .slot)) _ (now (a .length)) _ q (c .word .ensures ∙ ap wordOf (c .before .readable .ensures ∙ x .1)) in
+    (p .0, (sym (ap (λ (f : Found). slotsPlace f (pathAt (now (a .image)) (a .slot) .slots) (now (a .slots))) q), p .1))
 
 root-to-leaf-requires : tie.Need-root-to-leaf-requires
-root-to-leaf-requires c κs = readable-size _ (readable-done _ (sym (c .before .is-readable .ensures) ∙ not-false _ (c .if1 .left)))
+root-to-leaf-requires c κs = readable-size _ (readable-done _ (sym (c .before .before .is-readable .ensures) ∙ not-false _ (c .before .if1 .left)))
 
-enum-known-k : tie.Need-enum-known-k
-enum-known-k c = search needs
+enum-known-n : tie.Need-enum-known-n
+enum-known-n c = search needs
 
 wide-requires : tie.Need-wide-requires
 wide-requires c κs = search needs
 
-enum-known-k-2 : tie.Need-enum-known-k-2
-enum-known-k-2 c = search needs
+enum-known-e : tie.Need-enum-known-e
+enum-known-e c = search needs
 
 refused-requires : tie.Need-refused-requires
 refused-requires c κs = search needs
@@ -44,13 +47,18 @@ refused-requires c κs = search needs
 returns-2 : tie.Need-returns-2
 returns-2 c =
     let a = c .before .before .before .before .before .before .before .before .before .args in
-    let p = c .before .before .before .before .before .root-to-leaf .ensures in
-    path-found (lengthAt (now (a .image)) (a .slot)) (pathAt (now (a .image)) (a .slot) .slots) (now (a .slots)) _ (now (a .length)) _ _ (read-found _ (readable-done _ (sym (c .before .before .before .before .before .before .before .is-readable .ensures) ∙ not-false _ (c .before .before .before .before .before .before .if1 .left))) _ ∙ sym (ap (λ (x : Path). x .length) p) ∙ c .before .before .before .k .given .1) (c .wide .ensures) (ap (λ (x : Path). x .slots) p)
+    let e = c .before .before .before .before .root-to-leaf .ensures in
+    let q = read-found _ (readable-done _ (sym (c .before .before .before .before .before .before .before .is-readable .ensures) ∙ not-false _ (c .before .before .before .before .before .before .if1 .left))) (pathAt (now (a .image)) (a .slot) .length) in
+    let p = found-at (lengthAt (now (a .image)) (a .slot)) _ (now (a .length)) _ (q ∙ sym (e .0) ∙ c .before .before .n .given .1) (c .wide .ensures) in
+    (p .0, (e .1 ∙ sym (ap (λ (f : Found). slotsPlace f (pathAt (now (a .image)) (a .slot) .slots) (now (a .slots))) q), p .1))
 
 returns-3 : tie.Need-returns-3
 returns-3 c =
-    let a = c .before .before .before .before .before .before .before .before .args in
-    path-refused (lengthAt (now (a .image)) (a .slot)) (pathAt (now (a .image)) (a .slot) .slots) (now (a .slots)) _ (now (a .length)) _ (read-found _ (readable-done _ (sym (c .before .before .before .before .before .before .is-readable .ensures) ∙ not-false _ (c .before .before .before .before .before .if1 .left))) _ ∙ sym (ap (λ (x : Path). x .length) (c .before .before .before .before .root-to-leaf .ensures)) ∙ c .before .before .k2 .given .1) (c .refused .ensures)
+    let a = c .before .before .before .before .before .before .before .before .before .args in
+    let e = c .before .before .before .before .root-to-leaf .ensures in
+    let q = read-found _ (readable-done _ (sym (c .before .before .before .before .before .before .before .is-readable .ensures) ∙ not-false _ (c .before .before .before .before .before .before .if1 .left))) (pathAt (now (a .image)) (a .slot) .length) in
+    let p = found-refused (lengthAt (now (a .image)) (a .slot)) _ (now (a .length)) _ (q ∙ sym (e .0) ∙ c .before .before .e .given .1) (c .refused .ensures) in
+    (p .0, (e .1 ∙ sym (ap (λ (f : Found). slotsPlace f (pathAt (now (a .image)) (a .slot) .slots) (now (a .slots))) q), p .1))
 
 pub dpe-path-spec : {M : Type 1} → statement M
 dpe-path-spec =
@@ -61,9 +69,9 @@ dpe-path-spec =
     word-requires
     returns
     root-to-leaf-requires
-    enum-known-k
+    enum-known-n
     wide-requires
-    enum-known-k-2
+    enum-known-e
     refused-requires
     returns-2
     returns-3)
