@@ -35,16 +35,17 @@ pub struct StateRead {
     pub state: State,
 }
 
-// Whether every slot is good: their words are joined in one pass with no branch, and looked at together.
+// Whether every slot is good.
 fn are_good(image: &[u8]) -> bool
     requires { ⌜ length (now image) ≡ stateSize ⌝ }
     ensures { λ r. ⌜ r ≡ every (goodSlot (now (image .entry))) slotCount ⌝ }
 {
-    let mut kinds: u32 = 0;
     for i in 0..MAX_HANDLES {
-        kinds = kinds | image_context::kind_at(image, CONTEXTS_AT + image_context::SIZE * i);
+        if !image_context::is_good_at(image, CONTEXTS_AT + image_context::SIZE * i) {
+            return false;
+        }
     }
-    image_context::are_good_kinds(kinds)
+    true
 }
 
 // Whether the image reads. `readable` says why one does not.
