@@ -10,5 +10,3 @@ pub mod Normal
 pub mod Growing
 pub mod Initialize
 pub mod Promises
-pub mod Examples
-pub mod Unique

@@ -1,3 +1,2 @@
 -- What is promised of every table that the validator says yes to.
 pub mod Keeps
-pub mod Examples

@@ -484,8 +484,8 @@ peek-down-descend κ a r r′ s s′ = one
 pub peek-down-get-descendants : OneResult peek-down-get-descendants-reads.Post
 peek-down-get-descendants κ a r r′ s s′ = one
 
-pub peek-path-root-to-leaf : OneResult peek-path-root-to-leaf-reads.Post
-peek-path-root-to-leaf κ a r r′ s s′ = one
+pub peek-path-root-to-leaf : (κ : _) (a : _) (r r′ : _) (s s′ : _) → peek-path-root-to-leaf-reads.Post κ a r s → peek-path-root-to-leaf-reads.Post κ a r′ s′ → (r ≡ r′) × (now (s .1 .1 .0) ≡ now (s′ .1 .1 .0))
+peek-path-root-to-leaf κ a r r′ s s′ p q = (one (p .0) (q .0), one (p .1) (q .1))
 
 pub peek-up-run-above : OneResult peek-up-run-above-reads.Post
 peek-up-run-above κ a r r′ s s′ = one

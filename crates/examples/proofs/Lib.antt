@@ -1,0 +1,2 @@
+-- The proof of the worked examples.
+pub mod Examples

@@ -1,0 +1,2 @@
+-- The worked examples, as one table.
+pub mod Examples

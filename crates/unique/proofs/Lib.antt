@@ -1,0 +1,2 @@
+-- That no second result fits a contract.
+pub mod Unique
