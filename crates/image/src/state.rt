@@ -35,13 +35,15 @@ pub struct StateRead {
     pub state: State,
 }
 
-// Whether every slot is good.
+// Whether every slot is good: their words are joined, slot after slot, as long as they are good together.
 fn are_good(image: &[u8]) -> bool
     requires { ⌜ length (now image) ≡ stateSize ⌝ }
     ensures { λ r. ⌜ r ≡ every (goodSlot (now (image .entry))) slotCount ⌝ }
 {
+    let mut kinds: u32 = 0;
     for i in 0..MAX_HANDLES {
-        if !image_context::is_good_at(image, CONTEXTS_AT + image_context::SIZE * i) {
+        kinds = kinds | image_context::kind_at(image, CONTEXTS_AT + image_context::SIZE * i);
+        if !image_context::are_good_kinds(kinds) {
             return false;
         }
     }

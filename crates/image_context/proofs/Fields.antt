@@ -2,11 +2,12 @@
 use mathlib.Core.Path.{_≡_, refl, sym, ap, ap₂, _∙_}
 use mathlib.Core.Bool.{Bool, true, false, cond, _&&_}
 use mathlib.Core.List.{List}
-use Prim.Native.Nat.{ℕ, zero, suc, _+_, _*_, _%_, _<_}
+use Prim.Native.Nat.{ℕ, zero, suc, _+_, _*_, _%_, _^_, _<_}
 use native.Mathlib.Decide.{decLt}
 use native.Mathlib.Omega.{arith}
 use borrow.Author.Tests.{ltb-true, lt-ltb, le-ltb}
 use lib.Dec.{eqb, ltb}
+use lib.Bits.{bitOr, or-lt, or-mod, or-add-and, and-le-l, and-le-r}
 use lib.ListN.{getD}
 use Rattle.error.specs.declared.Outcome.{Outcome}
 use Rattle.error.specs.declared.Outcome.the-variants.{Done, Refused}
@@ -19,7 +20,7 @@ use Rattle.table.specs.declared.context.ContextState.the-variants.{Inactive, Ac
 use Rattle.table.specs.Context.{sameState}
 use Rattle.table.specs.declared.context.ContextType.{ContextType}
 use Rattle.table.specs.declared.context.ContextType.the-variants.{Normal, Simulation}
-use Rattle.image_context.specs.Context.{contextSize, stateOf, stateByte, typeOf, typeByte, stateByteIn, typeByteIn, stateAnswer, typeAnswer, first, contextAnswer, isGood}
+use Rattle.image_context.specs.Context.{contextSize, stateOf, stateByte, typeOf, typeByte, stateByteIn, typeByteIn, stateAnswer, typeAnswer, first, contextAnswer, isGood, kindWord, goodWord}
 
 -- ---- the bytes of a type and of a state
 
@@ -113,19 +114,42 @@ unfolding contextAnswer
 answer-is l at p q e =
     e ∙ ap₂ first (p ∙ ap stateAnswer (sym (getD-part at contextSize 138 l (omega arith)))) (q ∙ ap typeAnswer (sym (getD-part at contextSize 137 l (omega arith))))
 
--- ---- the quick test
+-- ---- the words of contexts, joined
 
--- the bytes as one word, with one state more, tell whether the context is good
-pub good-word : (l : List ℕ) (t s : ℕ) → t ≡ typeByteIn l → s ≡ stateByteIn l → t < 256
-    → (ltb ((t + 256 * s + 256) % 256) 2 && ltb (t + 256 * s + 256) 1024) ≡ isGood l
-unfolding isGood
-good-word l t s p q h =
+-- a word of bits is below a power of two just where both of its parts are
+or-below : (k a b : ℕ) → ltb (bitOr a b) (2 ^ k) ≡ (ltb a (2 ^ k) && ltb b (2 ^ k))
+or-below k a b = elim (decLt a (2 ^ k)) [
+  | yes h ↦ elim (decLt b (2 ^ k)) [
+    | yes g ↦ rw (lt-ltb _ _ h, lt-ltb _ _ g, lt-ltb _ _ (or-lt k a b h g))
+    | no ng ↦ rw (lt-ltb _ _ h, le-ltb b (2 ^ k) (omega arith), le-ltb (bitOr a b) (2 ^ k) (omega (arith, or-add-and a b, and-le-l a b)))
+  ]
+  | no nh ↦ rw (le-ltb a (2 ^ k) (omega arith), le-ltb (bitOr a b) (2 ^ k) (omega (arith, or-add-and a b, and-le-r a b)))
+]
+
+turned : (a b c d : Bool) → ((a && b) && (c && d)) ≡ ((a && c) && (b && d))
+turned true true c d = refl
+turned true false true d = refl
+turned true false false d = refl
+turned false b c d = refl
+
+-- joined words are good just where both are
+pub good-joined : (a b : ℕ) → goodWord (bitOr a b) ≡ (goodWord a && goodWord b)
+unfolding goodWord
+good-joined a b =
+    ap₂ _&&_ (ap (λ (x : ℕ). ltb x 2) (or-mod a b 8) ∙ or-below 1 (a % 256) (b % 256)) (or-below 10 a b)
+    ∙ turned (ltb (a % 256) 2) (ltb (b % 256) 2) (ltb a 1024) (ltb b 1024)
+
+-- and the word of a context just where the context is
+pub good-kind : (l : List ℕ) → typeByteIn l < 256 → goodWord (kindWord l) ≡ isGood l
+unfolding goodWord isGood
+good-kind l h =
+    let t : ℕ = typeByteIn l in
+    let s : ℕ = stateByteIn l in
     let e : (t + 256 * s + 256) % 256 ≡ t = omega arith in
-    let both : (ltb t 2 && ltb (t + 256 * s + 256) 1024) ≡ (ltb s 3 && ltb t 2) = elim (decLt t 2) [
+    ap (λ (x : ℕ). ltb x 2 && ltb (t + 256 * s + 256) 1024) e ∙ elim (decLt t 2) [
       | yes k ↦ elim (decLt s 3) [
         | yes g ↦ rw (lt-ltb t 2 k, lt-ltb s 3 g, lt-ltb (t + 256 * s + 256) 1024 (omega arith))
         | no ng ↦ rw (lt-ltb t 2 k, le-ltb s 3 (omega arith), le-ltb (t + 256 * s + 256) 1024 (omega arith))
       ]
       | no nk ↦ rw (le-ltb t 2 (omega arith)) (sym (and-right (ltb s 3) refl))
-    ] in
-    ap (λ (x : ℕ). ltb x 2 && ltb (t + 256 * s + 256) 1024) e ∙ both ∙ ap₂ (λ (x y : ℕ). ltb x 3 && ltb y 2) q p
+    ]

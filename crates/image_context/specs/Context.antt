@@ -100,6 +100,13 @@ contextAnswer l = first (stateAnswer (stateByteIn l)) (typeAnswer (typeByteIn l)
 unfoldable pub isGood : List ℕ → Bool
 isGood l = ltb (stateByteIn l) 3 && ltb (typeByteIn l) 2
 
+-- both bytes as one word, with one state more; a word whose type is below 2, and which has less than four states
+abbrev pub kindWord : List ℕ → ℕ
+kindWord l = typeByteIn l + 256 * stateByteIn l + 256
+
+unfoldable pub goodWord : ℕ → Bool
+goodWord w = ltb (w % 256) 2 && ltb w 1024
+
 -- ---- written: field after field
 
 -- the bytes of measurements

@@ -10,7 +10,7 @@ ghost use mathlib.Core.Path.{_≡_};
 ghost use Prim.Native.Nat.{_+_, _≤_};
 ghost use lib.ListN.{length};
 ghost use Rattle.wire.specs.Le.{part, put};
-ghost use Rattle.image_context.specs.Context.{contextSize, stateOf, stateByte, typeOf, typeByte, decodeTci, decodeContext, blankContext, stateAnswer, typeAnswer, first, contextAnswer, isGood, encodeTci, encodeLast, encodeContext};
+ghost use Rattle.image_context.specs.Context.{contextSize, stateOf, stateByte, typeOf, typeByte, decodeTci, decodeContext, blankContext, stateAnswer, typeAnswer, first, contextAnswer, kindWord, goodWord, encodeTci, encodeLast, encodeContext};
 
 pub const SIZE: usize = 144;
 
@@ -193,15 +193,21 @@ pub fn answer_at(image: &[u8], at: usize) -> Outcome
     first_of(s, t)
 }
 
-// Whether the context at `at` has a good type and a good state. Both bytes make one word, with one state more, so that one look tells.
-pub fn is_good_at(image: &[u8], at: usize) -> bool
+// The type byte and the state byte of the context at `at` as one word, with one state more: a good context has less than four.
+pub fn kind_at(image: &[u8], at: usize) -> u32
     requires { ⌜ at + contextSize ≤ length (now image) ⌝ }
-    ensures { λ r. ⌜ r ≡ isGood (part at contextSize (now (image .entry))) ⌝ }
+    ensures { λ r. ⌜ r ≡ kindWord (part at contextSize (now (image .entry))) ⌝ }
 {
     let context_type = image[at + CONTEXT_TYPE_AT] as u32;
     let state = image[at + STATE_AT] as u32;
-    let kind = context_type + 256 * state + 256;
-    (kind % 256 < 2) & (kind < 1024)
+    context_type + 256 * state + 256
+}
+
+// Whether the words of all contexts, joined, are those of good ones.
+pub fn are_good_kinds(word: u32) -> bool
+    ensures { λ r. ⌜ r ≡ goodWord word ⌝ }
+{
+    (word % 256 < 2) & (word < 1024)
 }
 
 // The measurements into their place in a context.

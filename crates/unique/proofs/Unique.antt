@@ -82,7 +82,8 @@ use Rattle.image_context.proofs.type_of.Reads as image-context-type-of-reads
 use Rattle.image_context.proofs.read_context.Reads as image-context-read-context-reads
 use Rattle.image_context.proofs.blank.Reads as image-context-blank-reads
 use Rattle.image_context.proofs.answer_at.Reads as image-context-answer-at-reads
-use Rattle.image_context.proofs.is_good_at.Reads as image-context-is-good-at-reads
+use Rattle.image_context.proofs.kind_at.Reads as image-context-kind-at-reads
+use Rattle.image_context.proofs.are_good_kinds.Reads as image-context-are-good-kinds-reads
 use Rattle.image_context.proofs.write_context.Reads as image-context-write-context-reads
 use Rattle.image_context.proofs.state_byte.Reads as image-context-state-byte-reads
 use Rattle.image_context.proofs.type_byte.Reads as image-context-type-byte-reads
@@ -381,8 +382,11 @@ image-context-blank κ a r r′ s s′ = one
 pub image-context-answer-at : OneResult image-context-answer-at-reads.Post
 image-context-answer-at κ a r r′ s s′ = one
 
-pub image-context-is-good-at : OneResult image-context-is-good-at-reads.Post
-image-context-is-good-at κ a r r′ s s′ = one
+pub image-context-kind-at : OneResult image-context-kind-at-reads.Post
+image-context-kind-at κ a r r′ s s′ = one
+
+pub image-context-are-good-kinds : OneResult image-context-are-good-kinds-reads.Post
+image-context-are-good-kinds κ a r r′ s s′ = one
 
 pub image-context-write-context : (κ : _) (a : _) (r r′ : _) (s s′ : _) → image-context-write-context-reads.Post κ a r s → image-context-write-context-reads.Post κ a r′ s′ → (now (s .0) ≡ now (s′ .0))
 image-context-write-context κ a r r′ s s′ p q = one p q

@@ -1,15 +1,13 @@
--- `image_context::is_good_at` meets its contract. Assumes nothing.
-use mathlib.Core.Path.{sym}
-use Prim.Native.Nat.{_+_}
+-- `image_context::kind_at` meets its contract. Assumes nothing.
+use mathlib.Core.Path.{sym, ap₂}
+use Prim.Native.Nat.{ℕ, _+_, _*_}
 use native.Mathlib.Omega.{arith}
 use denote.Ref.{now}
-use Rattle.wire.specs.Le.{part}
 use Rattle.wire.proofs.Part.{getD-part}
 use Rattle.image_context.specs.Context.{contextSize}
-use Rattle.image_context.proofs.Fields.{good-word}
 use borrow.Author.Needs.{needs}
-use Rattle.image_context.proofs.is_good_at.Statement.{statement}
-use Rattle.image_context.proofs.is_good_at.Tie as tie
+use Rattle.image_context.proofs.kind_at.Statement.{statement}
+use Rattle.image_context.proofs.kind_at.Tie as tie
 
 add-context-type : tie.Need-add-context-type
 add-context-type c = search needs
@@ -29,16 +27,16 @@ shared-slice-read-state c = search needs
 cast-state : tie.Need-cast-state
 cast-state c = omega (arith, c .shared-slice-known2 .given (c .before .before .args .at + 138))
 
-mul-kind : tie.Need-mul-kind
-mul-kind c = omega (arith, c .shared-slice-known2 .given (c .before .before .args .at + 138))
+mul-result : tie.Need-mul-result
+mul-result c = omega (arith, c .shared-slice-known2 .given (c .before .before .args .at + 138))
 
-add-kind : tie.Need-add-kind
-add-kind c =
+add-result : tie.Need-add-result
+add-result c =
     let a = c .before .before .args .at in
     omega (arith, c .shared-slice-known2 .given (a + 137), c .shared-slice-known2 .given (a + 138))
 
-add-kind-2 : tie.Need-add-kind-2
-add-kind-2 c =
+add-result-2 : tie.Need-add-result-2
+add-result-2 c =
     let a = c .before .before .args .at in
     omega (arith, c .shared-slice-known2 .given (a + 137), c .shared-slice-known2 .given (a + 138))
 
@@ -46,11 +44,10 @@ returns : tie.Need-returns
 returns c =
     let a = c .before .before .args in
     let l = now (a .image) in
-    good-word (part (a .at) contextSize l) _ _ (sym (getD-part (a .at) contextSize 137 l (omega arith))) (sym (getD-part (a .at) contextSize 138 l (omega arith)))
-    (omega (arith, c .shared-slice-known2 .given (a .at + 137)))
+    ap₂ (λ (t s : ℕ). t + 256 * s + 256) (sym (getD-part (a .at) contextSize 137 l (omega arith))) (sym (getD-part (a .at) contextSize 138 l (omega arith)))
 
-pub is-good-at-spec : {M : Type 1} → statement M
-is-good-at-spec =
+pub kind-at-spec : {M : Type 1} → statement M
+kind-at-spec =
     tie.close
     (tie.spec
     add-context-type
@@ -59,7 +56,7 @@ is-good-at-spec =
     add-state
     shared-slice-read-state
     cast-state
-    mul-kind
-    add-kind
-    add-kind-2
+    mul-result
+    add-result
+    add-result-2
     returns)

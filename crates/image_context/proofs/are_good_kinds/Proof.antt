@@ -1,0 +1,12 @@
+-- `image_context::are_good_kinds` meets its contract. Assumes nothing.
+use mathlib.Core.Path.{refl}
+use Rattle.image_context.specs.Context.{goodWord}
+use Rattle.image_context.proofs.are_good_kinds.Statement.{statement}
+use Rattle.image_context.proofs.are_good_kinds.Tie as tie
+
+returns : tie.Need-returns
+unfolding goodWord
+returns c = refl
+
+pub are-good-kinds-spec : {M : Type 1} → statement M
+are-good-kinds-spec = tie.close (tie.spec returns)
