@@ -4,11 +4,9 @@ use children::MAX_HANDLES;
 use error::DpeErrorCode;
 use error::Outcome;
 use image::state;
-use peek::down;
 use peek::find;
-use peek::path;
-use peek::validate;
-use place::destroy;
+use peek_walks::down;
+use peek_walks::path;
 use place::initialize;
 use place::rotate;
 use table::handle;
@@ -40,7 +38,7 @@ pub extern "C" fn dpe_validate(image: &[u8]) -> u64
     if !state::is_readable(image) {
         return error::word(state::readable(image));
     }
-    error::word(validation::outcome(validate::validate_dpe(image)))
+    error::word(validation::outcome(peek_validate::validate_dpe(image)))
 }
 
 // Finds the active context of a locality that has a handle.
@@ -132,7 +130,7 @@ pub extern "C" fn dpe_destroy_context(
     if !state::is_readable(image) {
         return error::word(state::readable(image));
     }
-    error::word(destroy::destroy_context(image, *handle, locality))
+    error::word(place_destroy::destroy_context(image, *handle, locality))
 }
 
 // All that is below a slot, as marks.

@@ -1,4 +1,2 @@
 -- Laws that belong to no one function; callers cite them.
 pub mod Read
-pub mod Climbing
-pub mod Rest

@@ -1,4 +1,4 @@
--- What is read off a slot of the image is what the table says of it. Assumes nothing.
+-- What is read off a slot of the image, or off the words behind the slots, is what the table says. Assumes nothing.
 use mathlib.Core.Path.{_≡_, refl, sym, ap, _∙_}
 use mathlib.Core.List.{List}
 use Prim.Native.Nat.{ℕ, _+_, _*_, _<_}
@@ -20,9 +20,6 @@ use Rattle.image_context.proofs.Fields.{same-byte, done-bytes}
 use Rattle.view.specs.declared.SlotFields.{SlotFields}
 use Rattle.view.specs.View.{fieldsOf}
 use Rattle.view.proofs.Fields.{state-fields}
-use Rattle.verdict.specs.Tests.{headerOf, contextOf}
-use Rattle.validation_slots.specs.Summary.{linksOn}
-use Rattle.validation_slots.specs.Summary as summary
 
 module _ (l : List ℕ) (i : ℕ) (h : i < slotCount) where
   pub handle-is : part (contextsAt + contextSize * i + 0) handleSize l ≡ slotOf (decodeState l .contexts) i .handle
@@ -44,17 +41,9 @@ module _ (l : List ℕ) (i : ℕ) (h : i < slotCount) where
   pub fields-read : (f : SlotFields) → f ≡ fieldsOf (slotIn l i) → f ≡ fieldsOf (slotOf (decodeState l .contexts) i)
   fields-read f e = e ∙ state-fields l i h
 
--- ---- the words around the slots
+-- ---- the words behind the slots
 
 module _ (l : List ℕ) where
-  pub marker-is : le (part 0 4 l) ≡ decodeState l .marker
-  unfolding decodeState
-  marker-is = refl
-
-  pub version-is : le (part 4 4 l) ≡ decodeState l .version
-  unfolding decodeState
-  version-is = refl
-
   pub support-is : le (part supportAt 4 l) ≡ decodeState l .support
   unfolding decodeState
   support-is = refl
@@ -62,9 +51,3 @@ module _ (l : List ℕ) where
   pub initialized-is : getD l (supportAt + 6) 0 ≡ decodeState l .«has_initialized»
   unfolding decodeState
   initialized-is = refl
-
-  -- the tests of a slot, with what was read
-  pub slot-tested : (children parents : List ℕ) (live i w : ℕ) (c : Context) → w ≡ le (part supportAt 4 l) → c ≡ slotOf (decodeState l .contexts) i
-      → contextOf slotCount w (getD l (supportAt + 6) 0) c (linksOn children parents live i)
-      ≡ summary.slotIn (headerOf (decodeState l)) (slotOf (decodeState l .contexts)) children parents live i
-  slot-tested children parents live i w c e q = rw (e, q, support-is, initialized-is)

@@ -9,7 +9,7 @@ use Rattle.image.proofs.Reading.{readable-done, not-readable}
 use Rattle.destroy_context.specs.declared.Destroyed.{Destroyed}
 use Rattle.destroy_context.specs.Destroy.{destroyOf}
 use Rattle.place.specs.Place.{destroyedAfter}
-use Rattle.place.proofs.After.{gone-refused}
+use Rattle.place_destroy.proofs.Cleared.{gone-refused}
 use Rattle.duottarok.specs.Exports.{destroyAt}
 use Rattle.duottarok.proofs.Exports.{unread-destroy, read-destroy}
 use borrow.Author.Needs.{needs}
