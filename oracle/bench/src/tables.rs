@@ -23,6 +23,7 @@ pub const STRAY_MARKS: &str = "damaged: stray marks";
 pub const SHARED: &str = "damaged: shared children";
 pub const RING: &str = "damaged: ring of parents";
 pub const DEEPEST: &str = "damaged: deepest";
+pub const LAST_SHARED: &str = "damaged: last slot shared";
 
 const ROOT: u8 = 0xff;
 /// The last slot, which is a leaf in every table and is freed where one is to be free.
@@ -167,6 +168,16 @@ fn deepest() -> Image {
     image
 }
 
+/// A chain whose every slot marks the last one too: the next slot down is never the last child, and no walk that returns needs more stack.
+fn last_shared() -> Image {
+    let mut image = chain(false);
+    for i in 0..LAST {
+        let marks: u64 = 1 << (i + 1) | 1 << LAST;
+        image::put(&mut image, image::at(i) + 124, &marks.to_le_bytes());
+    }
+    image
+}
+
 fn table(name: &'static str, about: &'static str, image: Image) -> Table {
     Table { name, about, image }
 }
@@ -216,6 +227,11 @@ fn damaged() -> Vec<Table> {
             DEEPEST,
             "the chain; its last slot has the other type. No walk that returns is deeper",
             deepest(),
+        ),
+        table(
+            LAST_SHARED,
+            "the chain; every slot marks the last one too, so that each level of a walk down is a call",
+            last_shared(),
         ),
     ]
 }
