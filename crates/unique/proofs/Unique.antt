@@ -121,8 +121,8 @@ use Rattle.peek_walks.proofs.down.get_descendants.Reads as peek-down-get-descen
 use Rattle.peek_walks.proofs.path.root_to_leaf.Reads as peek-path-root-to-leaf-reads
 use Rattle.peek_walks.proofs.up.run_above.Reads as peek-up-run-above-reads
 use Rattle.peek_validate.proofs.validate_dpe.Reads as peek-validate-validate-dpe-reads
-use Rattle.place.proofs.initialize.initialize_context.Reads as place-initialize-initialize-context-reads
-use Rattle.place.proofs.rotate.rotate_context.Reads as place-rotate-rotate-context-reads
+use Rattle.place_initialize.proofs.initialize_context.Reads as place-initialize-initialize-context-reads
+use Rattle.place_rotate.proofs.rotate_context.Reads as place-rotate-rotate-context-reads
 use Rattle.place_destroy.proofs.destroy_context.Reads as place-destroy-destroy-context-reads
 use Rattle.duottarok.proofs.dpe_validate.Reads as dpe-validate-reads
 use Rattle.duottarok.proofs.dpe_lookup.Reads as dpe-lookup-reads
