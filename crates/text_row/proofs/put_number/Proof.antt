@@ -1,12 +1,12 @@
--- `text::put_number` meets its contract. Assumes nothing.
+-- `text_row::put_number` meets its contract. Assumes nothing.
 use native.Mathlib.Omega.{arith}
 use denote.Ref.{now}
 use lib.ListN.{take}
-use Rattle.text.proofs.Decimal.{decimal-put}
-use Rattle.text.proofs.Text.{number-put}
+use Rattle.text_row.proofs.Decimal.{decimal-put}
+use Rattle.text_row.proofs.Row.{number-put}
 use borrow.Author.Needs.{needs}
-use Rattle.text.proofs.put_number.Statement.{statement}
-use Rattle.text.proofs.put_number.Tie as tie
+use Rattle.text_row.proofs.put_number.Statement.{statement}
+use Rattle.text_row.proofs.put_number.Tie as tie
 
 decimal-requires : tie.Need-decimal-requires
 decimal-requires c κs = search needs

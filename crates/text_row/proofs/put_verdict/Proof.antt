@@ -1,11 +1,11 @@
--- `text::put_verdict` meets its contract. Assumes nothing.
+-- `text_row::put_verdict` meets its contract. Assumes nothing.
 use native.Mathlib.Omega.{arith}
 use Prim.Native.Nat.{_≤_}
-use Rattle.text.specs.Text.{verdictMost}
-use Rattle.text.proofs.Text.{verdict-put}
+use Rattle.text_row.specs.Row.{verdictMost}
+use Rattle.text_row.proofs.Row.{verdict-put}
 use borrow.Author.Needs.{needs}
-use Rattle.text.proofs.put_verdict.Statement.{statement}
-use Rattle.text.proofs.put_verdict.Tie as tie
+use Rattle.text_row.proofs.put_verdict.Statement.{statement}
+use Rattle.text_row.proofs.put_verdict.Tie as tie
 
 slice-aggregate-write-run : tie.Need-slice-aggregate-write-run
 slice-aggregate-write-run c = search needs

@@ -1,13 +1,13 @@
--- `text::put_row` meets its contract. Assumes nothing.
+-- `text_row::put_row` meets its contract. Assumes nothing.
 use native.Mathlib.Omega.{arith}
 use Prim.Native.Nat.{_+_, _≤_}
 use Rattle.children.specs.Marks.{slotCount, marked}
 use Rattle.children.proofs.Below.{count-le}
-use Rattle.text.specs.Text.{rowMost}
-use Rattle.text.proofs.Text.{row-put}
+use Rattle.text_row.specs.Row.{rowMost}
+use Rattle.text_row.proofs.Row.{row-put}
 use borrow.Author.Needs.{needs}
-use Rattle.text.proofs.put_row.Statement.{statement}
-use Rattle.text.proofs.put_row.Tie as tie
+use Rattle.text_row.proofs.put_row.Statement.{statement}
+use Rattle.text_row.proofs.put_row.Tie as tie
 
 cast-parent : tie.Need-cast-parent
 cast-parent c = search needs

@@ -11,7 +11,7 @@ use borrow.Author.Tests.{lt-ltb, le-ltb, ltb-true, ltb-false}
 use Rattle.io.specs.Counts.{Counts}
 use Rattle.io.specs.Digits.{glyph, digits, Fewest}
 use Rattle.children.proofs.Cases.{two}
-use Rattle.text.specs.Text.{digitsMost, decimalFrom, decimalOf}
+use Rattle.text_row.specs.Row.{digitsMost, decimalFrom, decimalOf}
 
 glyph-digit : (d : ℕ) → d < 10 → glyph d ≡ 48 + d
 glyph-digit d h = rw (lt-ltb d 10 h)
