@@ -7,8 +7,6 @@ use image::state;
 use peek::find;
 use peek_walks::down;
 use peek_walks::path;
-use place::initialize;
-use place::rotate;
 use table::handle;
 use table::state::Found;
 ghost use mathlib.Core.Path.{_≡_};
@@ -80,7 +78,7 @@ pub extern "C" fn dpe_initialize_context(
     if !state::is_readable(image) {
         return error::word(state::readable(image));
     }
-    let made = initialize::initialize_context(image, flags, locality, candidates);
+    let made = place_initialize::initialize_context(image, flags, locality, candidates);
     let ended = made.answer;
     let Outcome::Done = ended else {
         return error::word(ended);
@@ -107,7 +105,7 @@ pub extern "C" fn dpe_rotate_context(
     if !state::is_readable(image) {
         return error::word(state::readable(image));
     }
-    let made = rotate::rotate_context(image, *handle, locality, flags, candidates);
+    let made = place_rotate::rotate_context(image, *handle, locality, flags, candidates);
     let ended = made.answer;
     let Outcome::Done = ended else {
         return error::word(ended);

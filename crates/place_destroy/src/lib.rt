@@ -7,7 +7,6 @@ use peek::find;
 use peek::slot;
 use peek_walks::down;
 use peek_walks::up;
-use place::put;
 use table::handle;
 use table::state::Found;
 ghost use Prim.Native.Nat.{_<_};
@@ -28,13 +27,13 @@ fn clear_slot(image: &mut [u8], slot: usize, set: u64)
 {
     if children::has_child(set, slot) {
         let c = slot::context_at(image, slot);
-        put::put_context(image, slot, c.destroy());
+        place::put_context(image, slot, c.destroy());
         return;
     }
     let kids = slot::children_at(image, slot);
     let left = children::remove_children(kids, set);
     if left != kids {
-        put::put_children(image, slot, left);
+        place::put_children(image, slot, left);
     }
 }
 

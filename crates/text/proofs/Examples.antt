@@ -1,4 +1,4 @@
--- Texts written out: numbers at the edges, and document 01's example. Assumes nothing.
+-- Listings written out: document 01's example, and a refusal. Assumes nothing.
 use mathlib.Core.Bool.{false}
 use mathlib.Core.Path.{_≡_, refl}
 use mathlib.Core.List.{[], _∷_}
@@ -12,20 +12,8 @@ use Rattle.table.specs.declared.state.State.{State}
 use Rattle.table.specs.Bytes.{defaultHandle}
 use Rattle.table.specs.Context.{activeContext, noParent, slotOf}
 use Rattle.table.specs.State.{newState, withSlot}
-use Rattle.text.specs.Text.{decimalFrom, decimalOf, numberThen, verdictLine, rowOf, lineOf, rowsTo, linesFor, textOf}
-
--- `0`, `10` and the largest number of 32 bits
-zero-text : decimalOf 0 ≡ 48 ∷ []
-unfolding decimalOf decimalFrom
-zero-text = refl
-
-ten-text : decimalOf 10 ≡ 49 ∷ 48 ∷ []
-unfolding decimalOf decimalFrom
-ten-text = refl
-
-largest-text : decimalOf 0xffffffff ≡ 52 ∷ 50 ∷ 57 ∷ 52 ∷ 57 ∷ 54 ∷ 55 ∷ 50 ∷ 57 ∷ 53 ∷ []
-unfolding decimalOf decimalFrom
-largest-text = refl
+use Rattle.text_row.specs.Row.{decimalFrom, decimalOf, numberThen, verdictLine, rowOf}
+use Rattle.text.specs.Text.{lineOf, rowsTo, linesFor, textOf}
 
 -- document 01's table: slot 0 active, Normal, in locality 7, at the root, childless
 exampleTable : State

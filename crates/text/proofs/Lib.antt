@@ -1,5 +1,4 @@
 -- Laws that belong to no one function; callers cite them.
-pub mod Decimal
 pub mod Words
 pub mod Text
 pub mod Examples

@@ -1,24 +1,24 @@
--- Laws of the listing's text: one text put behind another, line by line. Assumes nothing.
-use Prim.Native.Nat.{ℕ, _+_, _/_, _%_, _^_, _≤_, _<_}
+-- Laws of the listing's text: its lines one behind another, and the whole. Assumes nothing.
+use Prim.Native.Nat.{ℕ, _+_, _/_, _%_, _^_, _≤_}
 use mathlib.Core.Path.{_≡_, refl, sym, ap, _∙_}
 use mathlib.Core.Bool.{true, false}
-use mathlib.Core.List.{List, [], _∷_, _++_, append-nil}
+use mathlib.Core.List.{List, [], _++_, append-nil}
 use native.Mathlib.Numerals.{add-one}
 use native.Mathlib.Omega.{arith}
-use lib.ListN.{length, length-append, set}
+use lib.ListN.{length}
 use lib.Seq.{length-take-le}
 use Rattle.io.specs.Counts.{Counts}
 use Rattle.error.specs.declared.Outcome.{Outcome}
 use Rattle.error.specs.declared.Outcome.the-variants.{Done}
 use Rattle.error.specs.Numbers.{wordOf}
-use Rattle.children.specs.Marks.{slotCount, countBelow}
+use Rattle.children.specs.Marks.{slotCount}
 use Rattle.wire.specs.Le.{put}
-use Rattle.wire.proofs.Put.{length-put, put-nil, put-next, put-sets}
+use Rattle.wire.proofs.Put.{put-nil}
 use Rattle.table.specs.declared.context.Context.{Context}
 use Rattle.table.specs.declared.state.State.{State}
 use Rattle.table.specs.Context.{slotOf, isInactive}
 use Rattle.image.specs.declared.state.StateRead.{StateRead}
-use Rattle.image_context.specs.Context.{stateByte, typeByte, first}
+use Rattle.image_context.specs.Context.{first}
 use Rattle.image.specs.Fits.{Fits}
 use Rattle.image.specs.State.{stateSize, decodeState, readableOf, encodeState}
 use Rattle.image_context.proofs.Fields.{first-done}
@@ -28,30 +28,15 @@ use Rattle.verdict.specs.Tests.{verdictOf, outcomeOf}
 use Rattle.view.specs.declared.SlotFields.{SlotFields}
 use Rattle.view.specs.View.{fieldsOf}
 use Rattle.duottarok.specs.Exports.{validateAt}
-use Rattle.text.specs.Text.{digitsMost, decimalOf, space, newline, numberThen, verdictWord, verdictLine, outerNumber, innerNumber, rowOf, lineOf, rowsTo, linesFor, textOf, listingOf, numberMost, PutAt}
+use Rattle.text_row.specs.Row.{verdictLine, rowOf, PutAt}
+use Rattle.text_row.proofs.Row.{put-size}
+use Rattle.text.specs.Text.{outerNumber, innerNumber, lineOf, rowsTo, linesFor, textOf, listingOf}
 use Rattle.text.proofs.Words.{outer-half, inner-half, yes-word, refused-word}
 
 -- ---- one text behind another
 
-pub put-more : {at r r′ : ℕ} {v w l l′ l″ : List ℕ} → PutAt at v l l′ r → PutAt r w l′ l″ r′ → r′ ≤ length l → PutAt at (v ++ w) l l″ r′
-put-more {at} {r} {r′} {v} {w} {l} {l′} {l″} a b h =
-    let q : l″ ≡ put (at + length v) w l′ = b .bytes ∙ ap (λ (k : ℕ). put k w l′) (a .place) in
-    record {
-      bytes = put-next at (length v) v w l refl (omega (arith, a .place, b .place)) (a .bytes) q;
-      place = omega (arith, a .place, b .place, length-append v w);
-    }
-
-put-start : {at r n : ℕ} {v l l′ : List ℕ} → PutAt at v l l′ r → r ≤ n → at ≤ n
-put-start a h = omega (arith, a .place)
-
 pub put-none : (at : ℕ) (l : List ℕ) → PutAt at [] l l at
 put-none at l = record { bytes = sym (put-nil at l); place = omega arith }
-
-put-size : {at r : ℕ} {v l l′ : List ℕ} → PutAt at v l l′ r → r ≤ length l → length l′ ≡ length l
-put-size {at} {r} {v} {l} {l′} a h = ap length (a .bytes) ∙ length-put at v l (omega (arith, a .place))
-
-put-byte : (at m : ℕ) (l : List ℕ) → at < length l → PutAt at (m ∷ []) l (set l at m) (at + 1)
-put-byte at m l h = record { bytes = put-sets at (m ∷ []) l (omega arith); place = refl }
 
 -- a text at the start of the buffer: its length, the buffer afterwards, and that the text is a part of it
 pub put-whole : {r : ℕ} {v l l′ : List ℕ} → PutAt 0 v l l′ r → r ≤ length l → (r ≡ length v) × ((l′ ≡ put 0 v l) × Counts r l′)
@@ -61,37 +46,7 @@ put-whole {r} {v} {l} {l′} a h =
 
 -- ---- lines
 
--- digits, and the byte behind them
-pub number-put : (at n mark k : ℕ) (l l′ v : List ℕ) → at + numberMost ≤ length l → k ≤ digitsMost → v ≡ decimalOf n → k ≡ length v → l′ ≡ put at v l
-    → PutAt at (numberThen n mark) l (set l′ (at + k) mark) (at + k + 1)
-unfolding numberThen
-number-put at n mark k l l′ v h u e m p =
-    let a : PutAt at v l l′ (at + k) = record { bytes = p; place = ap (λ (j : ℕ). at + j) m } in
-    let g : at + k < length l′ = omega (arith, put-size a (omega arith)) in
-    let z : PutAt at (v ++ (mark ∷ [])) l (set l′ (at + k) mark) (at + k + 1) = put-more a (put-byte (at + k) mark l′ g) (omega arith) in
-    rw e at z
-
--- the first line, number by number
-pub verdict-put : (outer inner : ℕ) {a r : ℕ} {l l₁ l₂ l₃ : List ℕ} → r ≤ length l → l₁ ≡ put 0 verdictWord l
-    → PutAt 8 (numberThen outer space) l₁ l₂ a → PutAt a (numberThen inner newline) l₂ l₃ r → PutAt 0 (verdictLine outer inner) l l₃ r
-unfolding verdictLine
-verdict-put outer inner h p a b = put-more (put-more (record { bytes = p; place = refl }) a (put-start b h)) b h
-
 module _ (i : ℕ) (f : SlotFields) where
-  -- a slot's line, number by number
-  pub row-put : {at a b c d e r : ℕ} {l l₁ l₂ l₃ l₄ l₅ l₆ : List ℕ} → r ≤ length l
-      → PutAt at (numberThen i space) l l₁ a → PutAt a (numberThen (stateByte (f .state)) space) l₁ l₂ b
-      → PutAt b (numberThen (typeByte (f .«context_type»)) space) l₂ l₃ c → PutAt c (numberThen (f .locality) space) l₃ l₄ d
-      → PutAt d (numberThen (f .«parent_idx») space) l₄ l₅ e → PutAt e (numberThen (countBelow slotCount (f .children)) newline) l₅ l₆ r
-      → PutAt at (rowOf i f) l l₆ r
-  unfolding rowOf
-  row-put h w₁ w₂ w₃ w₄ w₅ w₆ =
-      let h₅ = put-start w₆ h in
-      let h₄ = put-start w₅ h₅ in
-      let h₃ = put-start w₄ h₄ in
-      let h₂ = put-start w₃ h₃ in
-      put-more (put-more (put-more (put-more (put-more w₁ w₂ h₂) w₃ h₃) w₄ h₄) w₅ h₅) w₆ h
-
   pub line-none : isInactive (f .state) ≡ true → [] ≡ lineOf i f
   unfolding lineOf
   line-none e = sym (rw e)

@@ -1,6 +1,8 @@
-// The listing of an image as bytes: each function puts its text into the lent buffer from a place on, and answers the place behind it.
+// The listing of an image as bytes, line by line: each function puts its text into the lent buffer from a place on, and answers the place behind it.
 use children::MAX_HANDLES;
 use table::context;
+use text_row::ROW_MOST;
+use text_row::VERDICT_MOST;
 use view::SlotFields;
 ghost use mathlib.Core.Path.{_≡_};
 ghost use Prim.Native.Nat.{_+_, _*_, _/_, _%_, _^_, _<_, _≤_};
@@ -10,20 +12,11 @@ ghost use Rattle.children.specs.Marks.{slotCount};
 ghost use Rattle.wire.specs.Le.{put};
 ghost use Rattle.table.specs.Context.{slotOf};
 ghost use Rattle.image.specs.State.{stateSize, decodeState};
-ghost use Rattle.text.specs.Text.{numberThen, verdictLine, rowOf, lineOf, rowsTo, listingOf, PutAt, numberMost, verdictMost, rowMost};
+ghost use Rattle.text_row.specs.Row.{PutAt, rowMost};
+ghost use Rattle.text.specs.Text.{lineOf, rowsTo, listingOf};
 
-// The most bytes of a number of 32 bits with the byte after it, of the first line, of a slot's line, and of a listing.
-const NUMBER_MOST: usize = 11;
-
-const VERDICT_MOST: usize = 8 + 2 * NUMBER_MOST;
-
-const ROW_MOST: usize = 6 * NUMBER_MOST;
-
+// The most bytes of a listing.
 pub const LISTING_SIZE: usize = VERDICT_MOST + ROW_MOST * MAX_HANDLES;
-
-const SPACE: u8 = b' ';
-
-const NEWLINE: u8 = b'\n';
 
 // The high half of an ending's word: the outer number.
 fn high_half(word: u64) -> u32
@@ -39,48 +32,6 @@ fn low_half(word: u64) -> u32
     (word % 0x1_0000_0000) as u32
 }
 
-// A number in decimal, and a byte after it.
-fn put_number(out: &mut [u8], at: usize, n: u32, mark: u8) -> usize
-    requires { ⌜ at + numberMost ≤ length (now out) ⌝ }
-    ensures { λ r. ⌜ PutAt at (numberThen n mark) (now (out .entry)) (now (out .exit)) r ⌝ }
-    ensures { λ r. ⌜ r ≤ at + numberMost ⌝ }
-{
-    let mut digits = [0u8; 20];
-    let k = io::decimal(n as u64, &mut digits);
-    wire::write_run(out, at, &digits[..k]);
-    let e = at + k;
-    out[e] = mark;
-    e + 1
-}
-
-// The first line.
-fn put_verdict(out: &mut [u8], outer: u32, inner: u32) -> usize
-    requires { ⌜ verdictMost ≤ length (now out) ⌝ }
-    ensures { λ r. ⌜ PutAt 0 (verdictLine outer inner) (now (out .entry)) (now (out .exit)) r ⌝ }
-    ensures { λ r. ⌜ r ≤ verdictMost ⌝ }
-{
-    wire::write_run(out, 0, b"verdict ");
-    let a = put_number(out, 8, outer, SPACE);
-    put_number(out, a, inner, NEWLINE)
-}
-
-// The line of a live slot.
-fn put_row(out: &mut [u8], at: usize, slot: usize, f: SlotFields) -> usize
-    requires { ⌜ (at + rowMost ≤ length (now out)) × (slot < slotCount) ⌝ }
-    ensures { λ r. ⌜ PutAt at (rowOf slot f) (now (out .entry)) (now (out .exit)) r ⌝ }
-    ensures { λ r. ⌜ r ≤ at + rowMost ⌝ }
-{
-    let state = f.state;
-    let context_type = f.context_type;
-    let parent = f.parent_idx as u32;
-    let a = put_number(out, at, slot as u32, SPACE);
-    let b = put_number(out, a, image_context::state_byte(state) as u32, SPACE);
-    let c = put_number(out, b, image_context::type_byte(context_type) as u32, SPACE);
-    let d = put_number(out, c, f.locality, SPACE);
-    let e = put_number(out, d, parent, SPACE);
-    put_number(out, e, children::count(f.children) as u32, NEWLINE)
-}
-
 // The line of a slot, where it is live.
 fn put_line(out: &mut [u8], at: usize, slot: usize, f: SlotFields) -> usize
     requires { ⌜ (at + rowMost ≤ length (now out)) × (slot < slotCount) ⌝ }
@@ -91,7 +42,7 @@ fn put_line(out: &mut [u8], at: usize, slot: usize, f: SlotFields) -> usize
     if context::is_inactive(s) {
         return at;
     }
-    put_row(out, at, slot, f)
+    text_row::put_row(out, at, slot, f)
 }
 
 // The lines of all slots, upward, read through the view.
@@ -115,7 +66,7 @@ pub fn list(image: &[u8], out: &mut [u8; LISTING_SIZE]) -> usize
     ensures { λ r. ⌜ Counts r (now (out .exit)) ⌝ }
 {
     let word = duottarok::dpe_validate(image);
-    let a = put_verdict(out, high_half(word), low_half(word));
+    let a = text_row::put_verdict(out, high_half(word), low_half(word));
     if word != 0 {
         return a;
     }

@@ -121,8 +121,8 @@ use Rattle.peek_walks.proofs.down.get_descendants.Reads as peek-down-get-descen
 use Rattle.peek_walks.proofs.path.root_to_leaf.Reads as peek-path-root-to-leaf-reads
 use Rattle.peek_walks.proofs.up.run_above.Reads as peek-up-run-above-reads
 use Rattle.peek_validate.proofs.validate_dpe.Reads as peek-validate-validate-dpe-reads
-use Rattle.place.proofs.initialize.initialize_context.Reads as place-initialize-initialize-context-reads
-use Rattle.place.proofs.rotate.rotate_context.Reads as place-rotate-rotate-context-reads
+use Rattle.place_initialize.proofs.initialize_context.Reads as place-initialize-initialize-context-reads
+use Rattle.place_rotate.proofs.rotate_context.Reads as place-rotate-rotate-context-reads
 use Rattle.place_destroy.proofs.destroy_context.Reads as place-destroy-destroy-context-reads
 use Rattle.duottarok.proofs.dpe_validate.Reads as dpe-validate-reads
 use Rattle.duottarok.proofs.dpe_lookup.Reads as dpe-lookup-reads
@@ -132,6 +132,9 @@ use Rattle.duottarok.proofs.dpe_destroy_context.Reads as dpe-destroy-context-re
 use Rattle.duottarok.proofs.dpe_descendants.Reads as dpe-descendants-reads
 use Rattle.duottarok.proofs.dpe_path.Reads as dpe-path-reads
 use Rattle.duottarok.proofs.dpe_count.Reads as dpe-count-reads
+use Rattle.text_row.proofs.put_number.Reads as text-row-put-number-reads
+use Rattle.text_row.proofs.put_verdict.Reads as text-row-put-verdict-reads
+use Rattle.text_row.proofs.put_row.Reads as text-row-put-row-reads
 use Rattle.text.proofs.list.Reads as text-list-reads
 
 -- two results that are both what a definition says are one
@@ -531,6 +534,15 @@ image-context-state-byte κ a r r′ s s′ = one
 
 pub image-context-type-byte : OneResult image-context-type-byte-reads.Post
 image-context-type-byte κ a r r′ s s′ = one
+
+pub text-row-put-number : (κ : _) (a : _) (r r′ : _) (s s′ : _) → text-row-put-number-reads.Post κ a r s → text-row-put-number-reads.Post κ a r′ s′ → (r ≡ r′) × (now (s .0) ≡ now (s′ .0))
+text-row-put-number κ a r r′ s s′ p q = (one (p .0 .place) (q .0 .place), one (p .0 .bytes) (q .0 .bytes))
+
+pub text-row-put-verdict : (κ : _) (a : _) (r r′ : _) (s s′ : _) → text-row-put-verdict-reads.Post κ a r s → text-row-put-verdict-reads.Post κ a r′ s′ → (r ≡ r′) × (now (s .0) ≡ now (s′ .0))
+text-row-put-verdict κ a r r′ s s′ p q = (one (p .0 .place) (q .0 .place), one (p .0 .bytes) (q .0 .bytes))
+
+pub text-row-put-row : (κ : _) (a : _) (r r′ : _) (s s′ : _) → text-row-put-row-reads.Post κ a r s → text-row-put-row-reads.Post κ a r′ s′ → (r ≡ r′) × (now (s .0) ≡ now (s′ .0))
+text-row-put-row κ a r r′ s s′ p q = (one (p .0 .place) (q .0 .place), one (p .0 .bytes) (q .0 .bytes))
 
 pub text-list : (κ : _) (a : _) (r r′ : _) (s s′ : _) → text-list-reads.Post κ a r s → text-list-reads.Post κ a r′ s′ → (r ≡ r′) × (now (s .1 .0) ≡ now (s′ .1 .0))
 text-list κ a r r′ s s′ p q = (one (p .0) (q .0), one (p .1 .0) (q .1 .0))

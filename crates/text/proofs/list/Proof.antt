@@ -1,7 +1,8 @@
 -- `text::list` meets its contract. Assumes nothing.
 use native.Mathlib.Omega.{arith}
 use denote.Ref.{now}
-use Rattle.text.proofs.Text.{put-more, put-whole, listing-refused, listing-yes, yes-size}
+use Rattle.text_row.proofs.Row.{put-more}
+use Rattle.text.proofs.Text.{put-whole, listing-refused, listing-yes, yes-size}
 use borrow.Author.Needs.{needs}
 use Rattle.text.proofs.list.Statement.{statement}
 use Rattle.text.proofs.list.Tie as tie

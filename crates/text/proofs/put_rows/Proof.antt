@@ -9,8 +9,10 @@ use Rattle.children.specs.Marks.{slotCount}
 use Rattle.table.specs.Context.{slotOf}
 use Rattle.image.specs.State.{decodeState}
 use Rattle.view.proofs.Fields.{state-fields}
-use Rattle.text.specs.Text.{rowsTo, PutAt, rowMost}
-use Rattle.text.proofs.Text.{rows-none, rows-more, put-none, put-more}
+use Rattle.text_row.specs.Row.{PutAt, rowMost}
+use Rattle.text_row.proofs.Row.{put-more}
+use Rattle.text.specs.Text.{rowsTo}
+use Rattle.text.proofs.Text.{rows-none, rows-more, put-none}
 use Rattle.text.proofs.put_rows.Statement.{statement}
 use Rattle.text.proofs.put_rows.Tie as tie
 
