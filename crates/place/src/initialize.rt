@@ -1,14 +1,14 @@
 // Initialise on a lent image. initialize_context.rs.
 use crate::put;
 use candidates::Chosen;
+use context::ContextType;
+use context::handle;
 use error::DpeErrorCode;
 use error::Outcome;
 use image::state;
 use peek::choose;
 use peek::find;
-use table::context::ContextType;
 use table::flags;
-use table::handle;
 use table::state::Found;
 ghost use Prim.Native.Nat.{_<_};
 ghost use mathlib.Core.Path.{_≡_};

@@ -10,8 +10,8 @@ use Rattle.error.specs.declared.Outcome.the-variants.{Done, Refused}
 use Rattle.error.specs.Numbers.{outerOf, innerOf}
 use Rattle.children.specs.Marks.{slotCount, countBelow}
 use Rattle.wire.specs.Le.{put}
-use Rattle.table.specs.declared.context.Context.{Context}
-use Rattle.table.specs.Context.{slotOf, isInactive}
+use Rattle.context.specs.declared.Context.{Context}
+use Rattle.context.specs.Context.{slotOf, isInactive}
 use Rattle.image_context.specs.Context.{stateByte, typeByte}
 use Rattle.image.specs.State.{decodeState}
 use Rattle.view.specs.declared.SlotFields.{SlotFields}

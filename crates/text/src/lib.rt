@@ -1,6 +1,5 @@
 // The listing of an image as bytes: each function puts its text into the lent buffer from a place on, and answers the place behind it.
 use children::MAX_HANDLES;
-use table::context;
 use view::SlotFields;
 ghost use mathlib.Core.Path.{_≡_};
 ghost use Prim.Native.Nat.{_+_, _*_, _/_, _%_, _^_, _<_, _≤_};
@@ -8,7 +7,7 @@ ghost use lib.ListN.{length};
 ghost use Rattle.io.specs.Counts.{Counts};
 ghost use Rattle.children.specs.Marks.{slotCount};
 ghost use Rattle.wire.specs.Le.{put};
-ghost use Rattle.table.specs.Context.{slotOf};
+ghost use Rattle.context.specs.Context.{slotOf};
 ghost use Rattle.image.specs.State.{stateSize, decodeState};
 ghost use Rattle.text.specs.Text.{numberThen, verdictLine, rowOf, lineOf, rowsTo, listingOf, PutAt, numberMost, verdictMost, rowMost};
 
