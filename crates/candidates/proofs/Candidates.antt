@@ -19,9 +19,9 @@ use Rattle.error.specs.declared.Outcome.the-variants.{Done, Refused}
 use Rattle.children.specs.Below.{some, lowestFrom, lowest}
 use Rattle.children.proofs.Cases.{clash, order, and-true, and-both, and-right, not-true, leb-true}
 use Rattle.children.proofs.Below.{low-here, low-on, low-end, low-bare, low-passes, low-ge, low-same, none-at, some-same}
-use Rattle.table.specs.declared.context.Context.{Context}
-use Rattle.table.specs.Bytes.{handleSize, sameBytes, defaultHandle, isDefault}
-use Rattle.table.proofs.Bytes.{same-iff}
+use Rattle.context.specs.declared.Context.{Context}
+use Rattle.context.specs.Bytes.{handleSize, sameBytes, defaultHandle, isDefault}
+use Rattle.context.proofs.Bytes.{same-iff}
 use Rattle.candidates.specs.declared.Chosen.{Chosen}
 use Rattle.candidates.specs.Candidates.{attempts, candidateAt, holds, hasHandle, usable, usableAt, takenOf, untakenOf, noneUsable, chosenIn}
 

@@ -1,18 +1,18 @@
 // The choice of a new handle among lent candidates. `generate_new_handle` of dpe_instance.rs, with a buffer in place of the crypto service.
 use children::MAX_HANDLES;
+use context::Context;
+use context::handle;
 use error::AddedErrorCode;
 use error::DpeErrorCode;
 use error::InternalErrorCode;
 use error::Outcome;
-use table::context::Context;
-use table::handle;
 use table::state::State;
 ghost use mathlib.Core.Path.{_≡_};
 ghost use Prim.Native.Nat.{_+_, _*_, _≤_};
 ghost use lib.ListN.{length};
 ghost use Rattle.children.specs.Marks.{slotCount};
-ghost use Rattle.table.specs.Bytes.{handleSize, sameBytes};
-ghost use Rattle.table.specs.Context.{slotOf};
+ghost use Rattle.context.specs.Bytes.{handleSize, sameBytes};
+ghost use Rattle.context.specs.Context.{slotOf};
 ghost use Rattle.candidates.specs.Candidates.{candidateAt, untakenOf, chosenIn};
 
 // How many candidates are tried.

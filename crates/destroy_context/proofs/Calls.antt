@@ -15,11 +15,11 @@ use Rattle.children.specs.declared.Answer.{Answer}
 use Rattle.children.specs.declared.Answer.the-variants.{Marks, Refused}
 use Rattle.children.specs.Marks.{slotCount, marked}
 use Rattle.children.proofs.Cases.{two, ltb-true}
-use Rattle.table.specs.declared.context.Context.{Context}
+use Rattle.context.specs.declared.Context.{Context}
 use Rattle.table.specs.declared.state.State.{State}
 use Rattle.table.specs.declared.state.Found.{Found}
 use Rattle.table.specs.declared.state.Found.the-variants as found
-use Rattle.table.specs.Context.{slotOf}
+use Rattle.context.specs.Context.{slotOf}
 use Rattle.forest.specs.Destroy.{doomedWord}
 use Rattle.lookup.specs.Lookup.{lookupIn}
 use Rattle.links.specs.declared.Links.{Links}

@@ -1,16 +1,15 @@
 -- A loop that rewrites every slot in its place: what it has made by slot i, and one step. Assumes nothing.
 use Prim.Native.Nat.{ℕ, suc, _+_, _≤_, _<_}
 use native.Mathlib.Numerals.{add-one}
-use native.Mathlib.Omega.{arith}
-use mathlib.Core.Path.{_≡_, refl, sym, ap, _∙_}
+use mathlib.Core.Path.{_≡_, sym, ap, _∙_}
 use mathlib.Core.List.{List, [], _∷_, _++_, append-assoc, append-nil}
-use lib.ListN.{length, getD, drop, set, drop-of-length-le}
+use lib.ListN.{length, drop, set, drop-of-length-le}
 use lib.Seq.{drop-cons, set-at, getD-at}
 use Rattle.children.specs.Below.{listOf}
 use Rattle.children.proofs.Below.{length-listOf}
-use Rattle.table.specs.declared.context.Context.{Context}
+use Rattle.context.specs.declared.Context.{Context}
 use Rattle.table.specs.declared.state.State.{State}
-use Rattle.table.specs.Context.{slotOf, noContext}
+use Rattle.context.specs.Context.{slotOf, noContext}
 use Rattle.table.specs.State.{withContexts}
 
 module _ (f : ℕ → Context → Context) where

@@ -11,11 +11,11 @@ use Rattle.children.specs.declared.Answer.{Answer}
 use Rattle.children.specs.declared.Answer.the-variants.{Marks, Refused}
 use Rattle.children.specs.Below.{listOf}
 use Rattle.children.specs.Marks.{slotCount, marked, without}
-use Rattle.table.specs.declared.context.Context.{Context}
+use Rattle.context.specs.declared.Context.{Context}
 use Rattle.table.specs.declared.state.State.{State}
 use Rattle.table.specs.declared.state.Found.{Found}
 use Rattle.table.specs.declared.state.Found.the-variants as found
-use Rattle.table.specs.Context.{destroyed, withChildren, slotOf}
+use Rattle.context.specs.Context.{destroyed, withChildren, slotOf}
 use Rattle.table.specs.State.{withContexts}
 use Rattle.forest.specs.Destroy.{doomedWord}
 use Rattle.lookup.specs.Lookup.{lookupIn}

@@ -1,12 +1,12 @@
 // Destroy: a context goes, with all that is below it and the retired run above it. destroy_context.rs.
 use children::Answer;
 use children::MAX_HANDLES;
+use context::Context;
+use context::handle;
 use error::DpeErrorCode;
 use error::InternalErrorCode;
 use error::Outcome;
 use links::Links;
-use table::context::Context;
-use table::handle;
 use table::state::Found;
 use table::state::State;
 use walks::descendants;

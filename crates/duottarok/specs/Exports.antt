@@ -15,7 +15,7 @@ use Rattle.table.specs.declared.state.State.{State}
 use Rattle.table.specs.declared.state.Found.{Found}
 use Rattle.table.specs.declared.state.Found.the-variants as found
 use Rattle.table.specs.declared.state.NewHandle.{NewHandle}
-use Rattle.table.specs.Context.{slotOf}
+use Rattle.context.specs.Context.{slotOf}
 use Rattle.table.specs.State.{countIn, refusedOf}
 use Rattle.image_context.specs.Context.{stateOf, first}
 use Rattle.image.specs.State.{decodeState, readableOf}

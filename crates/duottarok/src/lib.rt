@@ -1,13 +1,13 @@
 // The exported calls, over a lent image of 4,624 bytes, in place. include/duottarok.h says what each asks of its pointers.
 use children::Answer;
 use children::MAX_HANDLES;
+use context::handle;
 use error::DpeErrorCode;
 use error::Outcome;
 use image::state;
 use peek::find;
 use peek_walks::down;
 use peek_walks::path;
-use table::handle;
 use table::state::Found;
 ghost use mathlib.Core.Path.{_≡_};
 ghost use Rattle.error.specs.Numbers.{wordOf};

@@ -1,9 +1,9 @@
 -- Every example of the table comes out as expected: one proof, by computation. Assumes nothing.
-use mathlib.Core.List.{List, map}
+use mathlib.Core.List.{map}
 use mathlib.Core.Path.{_≡_, refl}
 use Rattle.children.specs.Below.{count, some, every, lowestFrom, listOf}
 use Rattle.children.specs.Marks.{marked, hasBelow, withIf}
-use Rattle.table.specs.Bytes.{sameBytes}
+use Rattle.context.specs.Bytes.{sameBytes}
 use Rattle.table.specs.State.{freeIn}
 use Rattle.links.specs.Summary.{marksOf}
 use Rattle.forest.specs.Walk.{over, walkDown}
@@ -15,7 +15,7 @@ use Rattle.initialize_context.specs.Initialize.{initializedOf}
 use Rattle.walks.specs.Walks.{toldOf, descendantsIn, runFrom}
 use Rattle.destroy_context.specs.Destroy.{clearedSlot, clearedBy, onDown, onRun, doomedOf, onDoomed, destroySlotOf, onFound, destroyOf}
 use Rattle.verdict.specs.Tests.{need, first, firstBelow, whereOf, isZeroTci, supportOf, inactiveOf, parentTest, childTest, linksTest, stateOf, contextOf, mixTest, localityOf, localitiesTest, foundFault, forestOf, verdict}
-use Rattle.examples.specs.Examples.{Example, Result, resultOf, examples}
+use Rattle.examples.specs.Examples.{Example, resultOf, examples}
 
 pub examples-hold : map (λ (e : Example). resultOf (e .table) (e .asked)) examples ≡ map (λ (e : Example). e .expected) examples
 unfolding examples need first firstBelow whereOf isZeroTci supportOf inactiveOf parentTest childTest linksTest stateOf contextOf mixTest localityOf localitiesTest foundFault forestOf verdict marked hasBelow withIf count some every lowestFrom listOf each visit searchRoots lastTests judge findFault sameBytes freeIn marksOf over walkDown climb lookupIn usable chosenIn initializedOf toldOf descendantsIn runFrom clearedSlot clearedBy onDown onRun doomedOf onDoomed destroySlotOf onFound destroyOf

@@ -1,24 +1,23 @@
 -- The worked examples of document 01 that are marked P, as one table: a table, what is asked of it, and what is expected. Assumes nothing: these
 -- are definitions.
-use mathlib.Core.Bool.{Bool, true, false}
 use mathlib.Core.List.{List, [], _∷_}
 use Prim.Native.Nat.{ℕ, _+_, _*_, _^_}
-use lib.ListN.{replicate, set}
+use lib.ListN.{replicate}
 use Rattle.error.specs.declared.Outcome.{Outcome}
 use Rattle.error.specs.Numbers.{wordOf}
 use Rattle.children.specs.declared.Answer.{Answer}
 use Rattle.children.specs.declared.Answer.the-variants as answer
 use Rattle.error.specs.declared.Outcome.the-variants as outcome
-use Rattle.children.specs.Marks.{slotCount, with}
-use Rattle.table.specs.declared.context.ContextState.{ContextState}
-use Rattle.table.specs.declared.context.ContextState.the-variants.{Active, Retired}
-use Rattle.table.specs.declared.context.Context.{Context}
+use Rattle.children.specs.Marks.{slotCount}
+use Rattle.context.specs.declared.ContextState.{ContextState}
+use Rattle.context.specs.declared.ContextState.the-variants.{Active, Retired}
+use Rattle.context.specs.declared.Context.{Context}
 use Rattle.table.specs.declared.state.State.{State}
 use Rattle.table.specs.declared.state.Found.{Found}
 use Rattle.table.specs.declared.state.Found.the-variants as found
 use Rattle.table.specs.declared.state.NewHandle.{NewHandle}
-use Rattle.table.specs.Bytes.{handleSize, defaultHandle}
-use Rattle.table.specs.Context.{noParent, newContext, slotOf}
+use Rattle.context.specs.Bytes.{handleSize}
+use Rattle.context.specs.Context.{noParent, newContext, slotOf}
 use Rattle.table.specs.State.{newState, withSlot, withInitialized}
 use Rattle.links.specs.Summary.{liveAt, kidsAt, marksOf}
 use Rattle.lookup.specs.Lookup.{lookupIn}

@@ -9,7 +9,7 @@ use native.Mathlib.Omega.{arith}
 use lib.Dec.{eqb, ltb}
 use Rattle.children.specs.Marks.{with}
 use Rattle.children.proofs.Cases.{two, clash, eqb-true, true-eqb, ltb-true, ltb-false}
-use Rattle.table.specs.Context.{noParent}
+use Rattle.context.specs.Context.{noParent}
 use Rattle.forest.specs.Walk.{Answer, loops, bad, ok}
 use Rattle.forest.specs.Run.{climb}
 use Rattle.forest.proofs.Pigeon.{distinct}

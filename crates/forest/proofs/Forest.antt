@@ -9,7 +9,7 @@ use Rattle.children.specs.Below.{count, every}
 use Rattle.children.specs.Marks.{marked}
 use Rattle.children.proofs.Cases.{two, clash, ltb-true, ltb-false}
 use Rattle.children.proofs.Below.{count-mono, count-same, every-at, at-every}
-use Rattle.table.specs.Context.{noParent}
+use Rattle.context.specs.Context.{noParent}
 use Rattle.forest.specs.Links.{Table, Linked, up, Rooted}
 use Rattle.forest.specs.Destroy.{clear, Doomed}
 use Rattle.forest.specs.Search.{Verdict, cycles, mixed, fine, searchRoots, Found, forest, normalRoot, lastTests, judge, findFault, Rule, Differ, Judged, is-mixed, is-many, is-cyclic, is-forest}

@@ -9,7 +9,7 @@ use native.Mathlib.Omega.{arith}
 use Rattle.children.specs.Below.{count}
 use Rattle.children.proofs.Cases.{two, clash}
 use Rattle.children.proofs.Below.{count-none, count-some, count-le-one}
-use Rattle.table.specs.Context.{noParent}
+use Rattle.context.specs.Context.{noParent}
 use Rattle.forest.specs.Links.{Table, Linked, up, Below, Chain, one, more, Near, Rooted, Ringless}
 use Rattle.forest.proofs.Pigeon.{Twice, pigeon}
 

@@ -10,7 +10,7 @@ use lib.Dec.{eqb}
 use Rattle.children.specs.Marks.{marked, with}
 use Rattle.children.proofs.Cases.{two, clash, order, and-true, eqb-true, true-eqb}
 use Rattle.children.proofs.Marks.{marked-none, marked-with-own}
-use Rattle.table.specs.Context.{noParent}
+use Rattle.context.specs.Context.{noParent}
 use Rattle.forest.specs.Links.{Table, Linked, up, Rooted}
 use Rattle.forest.specs.Search.{Verdict, cycles, mixed, fine, andThen, each, visit, isRoot, searchRoots, In}
 use Rattle.forest.proofs.Words.{put-keep, put-cases}

@@ -12,7 +12,7 @@ use Rattle.children.specs.Below.{count}
 use Rattle.children.specs.Marks.{markCount, marked}
 use Rattle.children.proofs.Cases.{two, clash, and-true, ltb-true, ltb-false}
 use Rattle.children.proofs.Marks.{marked-high}
-use Rattle.table.specs.Context.{noParent}
+use Rattle.context.specs.Context.{noParent}
 use Rattle.forest.specs.Links.{Table, linksIn, Linked, Reads, Rooted}
 use Rattle.forest.specs.Destroy.{clear, Doomed}
 use Rattle.forest.proofs.Destroy.{destroyed}

@@ -5,7 +5,7 @@ use mathlib.Core.Bool.{Bool, true, false, cond, not, _&&_}
 use Prim.Native.Nat.{ℕ, _<_}
 use Rattle.children.specs.Below.{count}
 use Rattle.children.specs.Marks.{marked, with, joined}
-use Rattle.table.specs.Context.{noParent}
+use Rattle.context.specs.Context.{noParent}
 use Rattle.forest.specs.Links.{Table, Linked, Below, Rooted}
 use Rattle.forest.specs.Walk.{ok, walkDown}
 use Rattle.forest.specs.Run.{singleIn, Run, climb}

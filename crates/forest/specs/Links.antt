@@ -4,7 +4,7 @@ use mathlib.Core.Logic.{_≢_}
 use mathlib.Core.Bool.{Bool, true, false, cond, _&&_}
 use Prim.Native.Nat.{ℕ, zero, suc, _≤_, _<_}
 use lib.Dec.{ltb}
-use Rattle.table.specs.Context.{noParent}
+use Rattle.context.specs.Context.{noParent}
 use Rattle.children.specs.Marks.{markCount, marked}
 
 -- live and retired slots, the parent of each, and which slot marks which

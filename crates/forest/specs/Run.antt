@@ -5,7 +5,7 @@ use Prim.Native.Nat.{ℕ, zero, suc}
 use lib.Dec.{eqb, ltb}
 use Rattle.children.specs.Below.{count}
 use Rattle.children.specs.Marks.{with, countBelow}
-use Rattle.table.specs.Context.{noParent}
+use Rattle.context.specs.Context.{noParent}
 use Rattle.forest.specs.Links.{Table}
 use Rattle.forest.specs.Walk.{Answer, loops, bad, ok}
 

@@ -7,7 +7,7 @@ use Prim.Native.Nat.{ℕ, zero, suc, _≤_, _<_}
 use lib.Dec.{eqb, ltb}
 use Rattle.children.specs.Below.{count, every}
 use Rattle.children.specs.Marks.{marked, with}
-use Rattle.table.specs.Context.{noParent}
+use Rattle.context.specs.Context.{noParent}
 use Rattle.forest.specs.Links.{Table, up, Rooted}
 
 -- a slot was met twice; a slot has another type than its root; what was seen

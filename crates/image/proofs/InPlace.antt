@@ -17,11 +17,11 @@ use Rattle.wire.specs.Le.{part, put, le, leBytes, Bytes}
 use Rattle.wire.proofs.Part.{length-part}
 use Rattle.wire.proofs.Put.{length-put, put-all, part-put-own, part-put-other, getD-put-own, getD-put-other, part-put-in}
 use Rattle.wire.proofs.Le.{bytes-none, bytes-cons, bytes-append, bytes-put, bytes-leBytes, length-leBytes, le-leBytes}
-use Rattle.table.specs.Bytes.{handleSize}
-use Rattle.table.specs.Context.{slotOf, noContext, withHandle, withChildren}
+use Rattle.context.specs.Bytes.{handleSize}
+use Rattle.context.specs.Context.{slotOf, noContext, withHandle, withChildren}
 use Rattle.table.specs.State.{withSlot, withInitialized}
-use Rattle.table.specs.declared.tci.TciNodeData.{TciNodeData}
-use Rattle.table.specs.declared.context.Context.{Context}
+use Rattle.context.specs.declared.tci.TciNodeData.{TciNodeData}
+use Rattle.context.specs.declared.Context.{Context}
 use Rattle.table.specs.declared.state.State.{State}
 use Rattle.image_context.specs.Fits.{Run, FitsTci, FitsContext}
 use Rattle.image_context.specs.Context.{contextSize, decodeTci, decodeContext, contextAnswer, encodeTci, encodeLast, encodeContext}

@@ -10,10 +10,10 @@ use denote.Laws.{Is}
 use denote.Shadow.{shadow}
 use denote.Array.{each}
 use denote.Struct.Laws.{owed}
-use Rattle.table.specs.Context.{slotOf}
-use Rattle.table.specs.declared.context.Context.{Context}
+use Rattle.context.specs.Context.{slotOf}
+use Rattle.context.specs.declared.Context.{Context}
 use Rattle.table.specs.declared.state.State.{State}
-use Rattle.table.proofs.context.Context as context
+use Rattle.context.proofs.Context as context
 use Rattle.table.proofs.state.State.{the-type, the-row}
 use Rattle.table.proofs.state.State.Laws.{the-laws}
 use Rattle.image_context.specs.Fits.{FitsContext}

@@ -20,9 +20,9 @@ use Rattle.children.specs.Below.{every, listOf}
 use Rattle.children.specs.Marks.{slotCount}
 use Rattle.children.proofs.Below.{every-at, at-every, listOf-at}
 use Rattle.wire.specs.Le.{part, le}
-use Rattle.table.specs.declared.context.Context.{Context}
+use Rattle.context.specs.declared.Context.{Context}
 use Rattle.table.specs.declared.state.State.{State}
-use Rattle.table.specs.Context.{slotOf, noContext}
+use Rattle.context.specs.Context.{slotOf, noContext}
 use Rattle.image_context.specs.Context.{contextAnswer, blankContext}
 use Rattle.image_context.proofs.Fields.{first-done, good-done, done-good}
 use Rattle.image.specs.State.{supportAt, stateSize, slotBytes, slotIn, decodeState, slotsAnswer, readableOf, goodSlot, isReadable, blankState, stateBeside, readState}

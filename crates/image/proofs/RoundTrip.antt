@@ -15,10 +15,10 @@ use Rattle.children.proofs.Below.{listOf-at, length-listOf}
 use Rattle.wire.specs.Le.{part, leBytes, Bytes}
 use Rattle.wire.proofs.Part.{length-part, part-on, byte-on, next-run, next-byte}
 use Rattle.wire.proofs.Le.{bytes-part, length-leBytes, le-leBytes, number-back}
-use Rattle.table.specs.Context.{slotOf, noContext}
+use Rattle.context.specs.Context.{slotOf, noContext}
 use Rattle.table.proofs.state.State.{the-row}
-use Rattle.table.specs.declared.tci.TciNodeData.{TciNodeData}
-use Rattle.table.specs.declared.context.Context.{Context}
+use Rattle.context.specs.declared.tci.TciNodeData.{TciNodeData}
+use Rattle.context.specs.declared.Context.{Context}
 use Rattle.table.specs.declared.state.State.{State}
 use Rattle.image_context.specs.Fits.{FitsTci, FitsContext}
 use Rattle.image_context.specs.Context.{contextSize, typeByteIn, stateByteIn, decodeTci, decodeContext, contextAnswer, encodeTci, encodeLast, encodeContext}

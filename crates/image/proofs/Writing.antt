@@ -15,8 +15,8 @@ use Rattle.children.specs.Marks.{slotCount}
 use Rattle.wire.specs.Le.{leBytes, put}
 use Rattle.wire.proofs.Put.{Wrote, wrote-more, length-put, put-nil, put-mid, put-next, put-sets, put-all}
 use Rattle.wire.proofs.Le.{length-leBytes}
-use Rattle.table.specs.Context.{slotOf, noContext}
-use Rattle.table.specs.declared.context.Context.{Context}
+use Rattle.context.specs.Context.{slotOf, noContext}
+use Rattle.context.specs.declared.Context.{Context}
 use Rattle.table.specs.declared.state.State.{State}
 use Rattle.image_context.specs.Fits.{FitsContext}
 use Rattle.image_context.specs.Context.{contextSize, encodeContext}

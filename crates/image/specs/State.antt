@@ -12,7 +12,7 @@ use Rattle.error.specs.declared.AddedErrorCode.the-variants.{BadLength}
 use Rattle.children.specs.Below.{every, listOf}
 use Rattle.children.specs.Marks.{slotCount}
 use Rattle.wire.specs.Le.{part, le, leBytes}
-use Rattle.table.specs.declared.context.Context.{Context}
+use Rattle.context.specs.declared.Context.{Context}
 use Rattle.table.specs.declared.state.State.{State}
 use Rattle.image_context.specs.Context.{contextSize, decodeContext, first, contextAnswer, isGood, encodeContext}
 use Rattle.image.specs.declared.state.StateRead.{StateRead}

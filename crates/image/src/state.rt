@@ -1,9 +1,9 @@
 // The whole state image.
 use children::MAX_HANDLES;
+use context::Context;
 use error::AddedErrorCode;
 use error::DpeErrorCode;
 use error::Outcome;
-use table::context::Context;
 use table::state::State;
 ghost use mathlib.Core.Path.{_≡_};
 ghost use lib.ListN.{length};

@@ -15,11 +15,11 @@ use Rattle.error.specs.declared.DpeErrorCode.{DpeErrorCode}
 use Rattle.children.proofs.Cases.{and-true, and-both, and-right}
 use Rattle.wire.specs.Le.{part}
 use Rattle.wire.proofs.Part.{getD-part}
-use Rattle.table.specs.declared.context.ContextState.{ContextState}
-use Rattle.table.specs.declared.context.ContextState.the-variants.{Inactive, Active, Retired}
-use Rattle.table.specs.Context.{sameState}
-use Rattle.table.specs.declared.context.ContextType.{ContextType}
-use Rattle.table.specs.declared.context.ContextType.the-variants.{Normal, Simulation}
+use Rattle.context.specs.declared.ContextState.{ContextState}
+use Rattle.context.specs.declared.ContextState.the-variants.{Inactive, Active, Retired}
+use Rattle.context.specs.Context.{sameState}
+use Rattle.context.specs.declared.ContextType.{ContextType}
+use Rattle.context.specs.declared.ContextType.the-variants.{Normal, Simulation}
 use Rattle.image_context.specs.Context.{contextSize, stateOf, stateByte, typeOf, typeByte, stateByteIn, typeByteIn, stateAnswer, typeAnswer, first, contextAnswer, isGood, kindWord, goodWord}
 
 -- ---- the bytes of a type and of a state

@@ -12,10 +12,10 @@ use denote.Array.{Array, each}
 use denote.Struct.Field.{u8-field}
 use Rattle.wire.specs.Le.{Bytes}
 use Rattle.wire.proofs.Le.{bytes-none, bytes-cons}
-use Rattle.table.specs.declared.tci.TciNodeData.{TciNodeData}
-use Rattle.table.specs.declared.context.Context.{Context}
-use Rattle.table.proofs.tci.TciNodeData as tci
-use Rattle.table.proofs.context.Context as context
+use Rattle.context.specs.declared.tci.TciNodeData.{TciNodeData}
+use Rattle.context.specs.declared.Context.{Context}
+use Rattle.context.proofs.tci.TciNodeData as tci
+use Rattle.context.proofs.Context as context
 use Rattle.image_context.specs.Fits.{Run, FitsTci, FitsContext}
 
 bytes-of : (xs : List ℕ) (us : List Val) → shadow (each ℕ (u8 .own) (map (u8-field .into) xs) us) → Bytes xs

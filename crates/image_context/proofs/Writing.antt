@@ -7,8 +7,8 @@ use lib.ListN.{length, length-append}
 use Rattle.wire.specs.Le.{leBytes, put}
 use Rattle.wire.proofs.Put.{Wrote, wrote-more, put-all}
 use Rattle.wire.proofs.Le.{length-leBytes}
-use Rattle.table.specs.declared.tci.TciNodeData.{TciNodeData}
-use Rattle.table.specs.declared.context.Context.{Context}
+use Rattle.context.specs.declared.tci.TciNodeData.{TciNodeData}
+use Rattle.context.specs.declared.Context.{Context}
 use Rattle.image_context.specs.Fits.{FitsTci, FitsContext}
 use Rattle.image_context.specs.Context.{contextSize, encodeTci, encodeLast, encodeContext}
 

@@ -9,12 +9,12 @@ use Rattle.error.specs.declared.Outcome.the-variants.{Done, Refused}
 use Rattle.error.specs.declared.DpeErrorCode.the-variants.{Validation}
 use Rattle.error.specs.declared.ValidationError.the-variants.{BadContextState, BadContextType}
 use Rattle.wire.specs.Le.{part, le, leBytes}
-use Rattle.table.specs.declared.tci.TciNodeData.{TciNodeData}
-use Rattle.table.specs.declared.context.ContextState.{ContextState}
-use Rattle.table.specs.declared.context.ContextState.the-variants.{Inactive, Active, Retired}
-use Rattle.table.specs.declared.context.ContextType.{ContextType}
-use Rattle.table.specs.declared.context.ContextType.the-variants.{Normal, Simulation}
-use Rattle.table.specs.declared.context.Context.{Context}
+use Rattle.context.specs.declared.tci.TciNodeData.{TciNodeData}
+use Rattle.context.specs.declared.ContextState.{ContextState}
+use Rattle.context.specs.declared.ContextState.the-variants.{Inactive, Active, Retired}
+use Rattle.context.specs.declared.ContextType.{ContextType}
+use Rattle.context.specs.declared.ContextType.the-variants.{Normal, Simulation}
+use Rattle.context.specs.declared.Context.{Context}
 
 -- how many bytes a context has
 abbrev pub contextSize : ℕ

@@ -5,9 +5,9 @@ use mathlib.Core.List.{List}
 use Prim.Native.Nat.{ℕ, _^_, _<_}
 use lib.ListN.{length}
 use Rattle.wire.specs.Le.{Bytes}
-use Rattle.table.specs.Bytes.{handleSize, tciSize}
-use Rattle.table.specs.declared.tci.TciNodeData.{TciNodeData}
-use Rattle.table.specs.declared.context.Context.{Context}
+use Rattle.context.specs.Bytes.{handleSize, tciSize}
+use Rattle.context.specs.declared.tci.TciNodeData.{TciNodeData}
+use Rattle.context.specs.declared.Context.{Context}
 
 -- a run of n bytes
 pub record Run (n : ℕ) (l : List ℕ) : Type 0 where

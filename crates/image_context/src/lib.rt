@@ -1,11 +1,11 @@
 // One context of the state image, by the offsets of document 01: 144 bytes. Added; the Rust has none.
+use context::Context;
+use context::ContextState;
+use context::ContextType;
+use context::tci::TciNodeData;
 use error::DpeErrorCode;
 use error::Outcome;
 use error::ValidationError;
-use table::context::Context;
-use table::context::ContextState;
-use table::context::ContextType;
-use table::tci::TciNodeData;
 ghost use mathlib.Core.Path.{_≡_};
 ghost use Prim.Native.Nat.{_+_, _≤_};
 ghost use lib.ListN.{length};

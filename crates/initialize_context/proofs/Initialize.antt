@@ -14,15 +14,15 @@ use Rattle.children.specs.Below.{lowest}
 use Rattle.children.specs.Marks.{slotCount, marked}
 use Rattle.children.proofs.Cases.{two, clash, and-both, or-left, or-right, or-none}
 use Rattle.children.proofs.Below.{low-bare, low-passes}
-use Rattle.table.specs.declared.context.Context.{Context}
+use Rattle.context.specs.declared.Context.{Context}
 use Rattle.table.specs.declared.state.State.{State}
 use Rattle.table.specs.declared.state.Found.{Found}
 use Rattle.table.specs.declared.state.Found.the-variants.{At, Refused}
 use Rattle.table.specs.declared.state.NewHandle.{NewHandle}
-use Rattle.table.specs.declared.context.ContextType.the-variants.{Simulation}
-use Rattle.table.specs.Bytes.{isOn, defaultHandle}
+use Rattle.context.specs.declared.ContextType.the-variants.{Simulation}
+use Rattle.context.specs.Bytes.{isOn, defaultHandle}
 use Rattle.table.specs.Flags.{simulationBit, initSimulationBit, initDefaultBit}
-use Rattle.table.specs.Context.{activeContext, slotOf}
+use Rattle.context.specs.Context.{activeContext, slotOf}
 use Rattle.table.specs.State.{idleAt, freeIn, refusedOf, handedOf, withSlot}
 use Rattle.table.proofs.Slots.{free-at, free-none}
 use Rattle.candidates.specs.declared.Chosen.{Chosen}

@@ -6,16 +6,16 @@ use Rattle.error.specs.declared.DpeErrorCode.the-variants.{ArgumentNotSupported
 use Rattle.error.specs.declared.Outcome.{Outcome}
 use Rattle.error.specs.declared.Outcome.the-variants as outcome
 use Rattle.children.specs.Marks.{slotCount, marked}
-use Rattle.table.specs.declared.context.ContextType.{ContextType}
-use Rattle.table.specs.declared.context.ContextType.the-variants.{Normal, Simulation}
-use Rattle.table.specs.declared.context.ActiveContextArgs.{ActiveContextArgs}
+use Rattle.context.specs.declared.ContextType.{ContextType}
+use Rattle.context.specs.declared.ContextType.the-variants.{Normal, Simulation}
+use Rattle.context.specs.declared.ActiveContextArgs.{ActiveContextArgs}
 use Rattle.table.specs.declared.state.State.{State}
 use Rattle.table.specs.declared.state.Found.{Found}
 use Rattle.table.specs.declared.state.Found.the-variants as found
 use Rattle.table.specs.declared.state.NewHandle.{NewHandle}
-use Rattle.table.specs.Bytes.{isOn, defaultHandle}
+use Rattle.context.specs.Bytes.{isOn, defaultHandle}
 use Rattle.table.specs.Flags.{simulationBit, initSimulationBit, initDefaultBit}
-use Rattle.table.specs.Context.{noParent, activeContext, slotOf}
+use Rattle.context.specs.Context.{noParent, activeContext, slotOf}
 use Rattle.table.specs.State.{withSlot, withInitialized, refusedOf, handedOf, freeIn}
 use Rattle.candidates.specs.Candidates.{chosenIn}
 

@@ -1,22 +1,22 @@
 // Initialise a default or a simulation context. initialize_context.rs.
+use context::ActiveContextArgs;
+use context::Context;
+use context::ContextType;
+use context::ROOT_INDEX;
+use context::handle;
+use context::u8bool;
 use error::DpeErrorCode;
 use error::Outcome;
-use table::context::ActiveContextArgs;
-use table::context::Context;
-use table::context::ContextType;
-use table::context::ROOT_INDEX;
 use table::flags;
-use table::handle;
 use table::state;
 use table::state::Found;
 use table::state::NewHandle;
 use table::state::State;
 use table::support;
-use table::u8bool;
 ghost use mathlib.Core.Path.{_≡_};
 ghost use Prim.Native.Nat.{_<_};
 ghost use Rattle.children.specs.Marks.{slotCount};
-ghost use Rattle.table.specs.Context.{activeContext};
+ghost use Rattle.context.specs.Context.{activeContext};
 ghost use Rattle.initialize_context.specs.Initialize.{notSupported, bothOrNeither, rootArgs, defaultIn, simulationOf, initializedOf};
 
 // Whether the default context is asked for again, or a simulation that is not supported.

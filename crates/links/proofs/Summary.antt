@@ -12,7 +12,7 @@ use Rattle.children.specs.Below.{listOf}
 use Rattle.children.specs.Marks.{slotCount, marked, withIf}
 use Rattle.children.proofs.Below.{listOf-at}
 use Rattle.children.proofs.Marks.{marked-none, marked-with-own, marked-with-other}
-use Rattle.table.specs.declared.context.Context.{Context}
+use Rattle.context.specs.declared.Context.{Context}
 use Rattle.links.specs.declared.Links.{Links}
 use Rattle.links.specs.Summary.{liveAt, retiredAt, simulationAt, parentAt, kidsAt, marksOf, summaryOf, numberIn}
 

@@ -1,13 +1,13 @@
 -- The links of a table, as the theory has them: what holds of every table, damaged or not. Assumes nothing.
-use mathlib.Core.Bool.{Bool, true, false}
+use mathlib.Core.Bool.{true}
 use mathlib.Core.Path.{_≡_, refl}
-use Prim.Native.Nat.{ℕ, _≤_, _<_}
+use Prim.Native.Nat.{ℕ, _≤_}
 use Rattle.children.specs.Marks.{markCount}
 use Rattle.children.proofs.Cases.{clash}
-use Rattle.table.specs.declared.context.ContextState.{ContextState}
-use Rattle.table.specs.declared.context.ContextState.the-variants.{Inactive, Active, Retired}
-use Rattle.table.specs.declared.context.Context.{Context}
-use Rattle.table.specs.Context.{isLive, isRetired}
+use Rattle.context.specs.declared.ContextState.{ContextState}
+use Rattle.context.specs.declared.ContextState.the-variants.{Inactive, Active, Retired}
+use Rattle.context.specs.declared.Context.{Context}
+use Rattle.context.specs.Context.{isLive, isRetired}
 use Rattle.forest.specs.Links.{Reads}
 use Rattle.forest.proofs.Slots.{Frame, frame-in, reads-in}
 use Rattle.links.specs.Summary.{liveAt, retiredAt, parentAt, kidsAt, tableOf, Words}

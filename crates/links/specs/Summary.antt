@@ -5,8 +5,8 @@ use Prim.Native.Nat.{ℕ, zero, suc, _^_, _<_}
 use lib.ListN.{getD}
 use Rattle.children.specs.Below.{listOf}
 use Rattle.children.specs.Marks.{slotCount, markCount, withIf}
-use Rattle.table.specs.declared.context.Context.{Context}
-use Rattle.table.specs.Context.{isLive, isRetired, isNormal}
+use Rattle.context.specs.declared.Context.{Context}
+use Rattle.context.specs.Context.{isLive, isRetired, isNormal}
 use Rattle.forest.specs.Links.{Table, linksIn}
 use Rattle.links.specs.declared.Links.{Links}
 

@@ -1,9 +1,8 @@
 // Who is below whom, in a few words: the summary of a table that the walks and the validator run over. Added; the Rust has none.
 use children::MAX_HANDLES;
-use table::context;
 use table::state::State;
 ghost use mathlib.Core.Path.{_≡_};
-ghost use Rattle.table.specs.Context.{slotOf};
+ghost use Rattle.context.specs.Context.{slotOf};
 ghost use Rattle.links.specs.Summary.{summaryOf};
 
 pub struct Links {

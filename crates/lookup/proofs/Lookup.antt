@@ -13,10 +13,10 @@ use Rattle.error.specs.declared.DpeErrorCode.the-variants.{InvalidHandle, Inval
 use Rattle.children.specs.Below.{some, lowest}
 use Rattle.children.proofs.Cases.{two, clash, order, and-true, and-both, and-left, eqb-true, true-eqb}
 use Rattle.children.proofs.Below.{low-bare, low-passes, low-same, of-some, some-of, none-at, some-same}
-use Rattle.table.specs.declared.context.Context.{Context}
+use Rattle.context.specs.declared.Context.{Context}
 use Rattle.table.specs.declared.state.Found.the-variants.{At, Refused}
-use Rattle.table.specs.Context.{isActive}
-use Rattle.table.proofs.Bytes.{same-iff}
+use Rattle.context.specs.Context.{isActive}
+use Rattle.context.proofs.Bytes.{same-iff}
 use Rattle.lookup.specs.Lookup.{activeOf, activeIn, isTarget, lookupIn}
 
 -- slot i is what the lookup of h and l has to find: a slot, active, of the locality, with the handle, and the lowest such

@@ -7,11 +7,11 @@ use lib.Dec.{eqb, ltb}
 use Rattle.error.specs.declared.DpeErrorCode.{DpeErrorCode}
 use Rattle.error.specs.declared.DpeErrorCode.the-variants.{InvalidHandle, InvalidLocality}
 use Rattle.children.specs.Below.{some, lowest}
-use Rattle.table.specs.declared.context.Context.{Context}
+use Rattle.context.specs.declared.Context.{Context}
 use Rattle.table.specs.declared.state.Found.{Found}
 use Rattle.table.specs.declared.state.Found.the-variants.{At, Refused}
-use Rattle.table.specs.Bytes.{sameBytes}
-use Rattle.table.specs.Context.{isActive}
+use Rattle.context.specs.Bytes.{sameBytes}
+use Rattle.context.specs.Context.{isActive}
 
 -- a context that is active, of the locality l
 abbrev pub activeOf : Context → ℕ → Bool

@@ -1,15 +1,14 @@
 // The lookup of an active context by handle and locality. `get_active_context_pos` of state.rs.
 use children::MAX_HANDLES;
+use context::Context;
+use context::ContextState;
+use context::handle;
 use error::DpeErrorCode;
-use table::context;
-use table::context::Context;
-use table::context::ContextState;
-use table::handle;
 use table::state::Found;
 use table::state::State;
 ghost use mathlib.Core.Path.{_≡_};
 ghost use Rattle.children.specs.Marks.{slotCount};
-ghost use Rattle.table.specs.Context.{slotOf};
+ghost use Rattle.context.specs.Context.{slotOf};
 ghost use Rattle.lookup.specs.Lookup.{activeOf, lookupIn, whyOf};
 
 // Whether a context is active, and of the locality.

@@ -9,10 +9,10 @@ use Rattle.error.specs.declared.Outcome.the-variants.{Done}
 use Rattle.children.specs.Marks.{slotCount}
 use Rattle.wire.specs.Le.{part, le}
 use Rattle.wire.proofs.Part.{part-part, getD-part}
-use Rattle.table.specs.declared.context.Context.{Context}
-use Rattle.table.specs.Context.{slotOf, sameState}
+use Rattle.context.specs.declared.Context.{Context}
+use Rattle.context.specs.Context.{slotOf, sameState}
 use Rattle.table.specs.State.{inState}
-use Rattle.table.specs.Bytes.{handleSize}
+use Rattle.context.specs.Bytes.{handleSize}
 use Rattle.image_context.specs.Context.{contextSize, stateOf, stateByteIn, decodeContext}
 use Rattle.image.specs.State.{contextsAt, supportAt, slotBytes, slotIn, decodeState, readableOf}
 use Rattle.image.proofs.Reading.{state-slot, readable-good}

@@ -3,15 +3,15 @@ use crate::slot;
 use candidates::Chosen;
 use candidates::MAX_NEW_HANDLE_ATTEMPTS;
 use children::MAX_HANDLES;
+use context::handle;
 use error::AddedErrorCode;
 use error::DpeErrorCode;
 use error::InternalErrorCode;
 use error::Outcome;
-use table::handle;
 ghost use mathlib.Core.Path.{_≡_};
 ghost use lib.ListN.{length};
 ghost use Rattle.children.specs.Marks.{slotCount};
-ghost use Rattle.table.specs.Context.{slotOf};
+ghost use Rattle.context.specs.Context.{slotOf};
 ghost use Rattle.image.specs.State.{stateSize, decodeState};
 ghost use Rattle.candidates.specs.Candidates.{chosenIn};
 

@@ -1,19 +1,18 @@
 // Slots looked for in a lent image, and counted. state.rs.
 use crate::slot;
 use children::MAX_HANDLES;
+use context::handle;
 use error::DpeErrorCode;
 use image::state::CONTEXTS_AT;
 use image_context::SIZE;
 use image_context::STATE_AT;
-use table::context;
-use table::handle;
 use table::state::Found;
 ghost use mathlib.Core.Path.{_≡_};
 ghost use Prim.Native.Nat.{_<_};
 ghost use lib.ListN.{length};
 ghost use Rattle.error.specs.declared.Outcome.the-variants.{Done};
 ghost use Rattle.children.specs.Marks.{slotCount};
-ghost use Rattle.table.specs.Context.{slotOf};
+ghost use Rattle.context.specs.Context.{slotOf};
 ghost use Rattle.table.specs.State.{countIn, freeIn};
 ghost use Rattle.image_context.specs.Context.{stateOf};
 ghost use Rattle.image.specs.State.{stateSize, decodeState, readableOf};

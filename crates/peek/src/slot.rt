@@ -1,13 +1,13 @@
 // One slot of a lent image.
+use context::Context;
+use context::ContextState;
+use context::handle;
 use image::state;
-use table::context::Context;
-use table::context::ContextState;
-use table::handle;
 ghost use mathlib.Core.Path.{_≡_};
 ghost use Prim.Native.Nat.{_<_};
 ghost use lib.ListN.{length};
 ghost use Rattle.children.specs.Marks.{slotCount};
-ghost use Rattle.table.specs.Context.{slotOf};
+ghost use Rattle.context.specs.Context.{slotOf};
 ghost use Rattle.image.specs.State.{stateSize, decodeState};
 ghost use Rattle.links.specs.Summary.{liveAt, retiredAt, parentAt, kidsAt};
 ghost use Rattle.lookup.specs.Lookup.{activeIn};
@@ -19,7 +19,7 @@ pub fn active_in(image: &[u8], slot: usize, locality: u32) -> bool
 {
     let f = view::fields_at(image, slot);
     let s = f.state;
-    table::context::same_state(ContextState::Active, s) & (f.locality == locality)
+    context::same_state(ContextState::Active, s) & (f.locality == locality)
 }
 
 // The handle of the slot.
@@ -58,7 +58,7 @@ pub fn is_live(image: &[u8], slot: usize) -> bool
 {
     let f = view::fields_at(image, slot);
     let s = f.state;
-    !table::context::is_inactive(s)
+    !context::is_inactive(s)
 }
 
 // Whether the slot is retired.
@@ -68,7 +68,7 @@ pub fn is_retired(image: &[u8], slot: usize) -> bool
 {
     let f = view::fields_at(image, slot);
     let s = f.state;
-    table::context::is_retired(s)
+    context::is_retired(s)
 }
 
 // The whole context of the slot.

@@ -5,8 +5,8 @@ use Prim.Native.Nat.{ℕ, _+_}
 use lib.ListN.{getD}
 use Rattle.children.specs.Marks.{slotCount}
 use Rattle.wire.specs.Le.{part, le}
-use Rattle.table.specs.declared.context.Context.{Context}
-use Rattle.table.specs.Context.{slotOf}
+use Rattle.context.specs.declared.Context.{Context}
+use Rattle.context.specs.Context.{slotOf}
 use Rattle.image.specs.State.{supportAt, decodeState}
 use Rattle.verdict.specs.Tests.{headerOf, contextOf}
 use Rattle.validation_slots.specs.Summary.{linksOn}

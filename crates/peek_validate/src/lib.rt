@@ -12,7 +12,7 @@ use verdict::Verdict;
 ghost use mathlib.Core.Path.{_≡_};
 ghost use lib.ListN.{length};
 ghost use Rattle.children.specs.Marks.{slotCount};
-ghost use Rattle.table.specs.Context.{slotOf};
+ghost use Rattle.context.specs.Context.{slotOf};
 ghost use Rattle.image.specs.State.{stateSize, decodeState};
 ghost use Rattle.verdict.specs.Tests.{headerOf, firstBelow, verdictOf};
 ghost use Rattle.validation_slots.specs.Summary.{slotIn};

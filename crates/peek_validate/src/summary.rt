@@ -1,13 +1,12 @@
 // The links and the places of a lent image, in one pass each.
 use children::MAX_HANDLES;
+use context::handle;
 use links::Links;
 use peek::slot;
-use table::context;
-use table::handle;
 use validation_localities::Places;
 ghost use mathlib.Core.Path.{_≡_};
 ghost use lib.ListN.{length};
-ghost use Rattle.table.specs.Context.{slotOf};
+ghost use Rattle.context.specs.Context.{slotOf};
 ghost use Rattle.image.specs.State.{stateSize, decodeState};
 ghost use Rattle.links.specs.Summary.{summaryOf};
 ghost use Rattle.validation_localities.specs.Summary.{placesOf};

@@ -10,7 +10,7 @@ ghost use Prim.Native.Nat.{_<_};
 ghost use lib.ListN.{length};
 ghost use Rattle.error.specs.declared.DpeErrorCode.the-variants.{InvalidHandle};
 ghost use Rattle.children.specs.Marks.{slotCount};
-ghost use Rattle.table.specs.Context.{slotOf};
+ghost use Rattle.context.specs.Context.{slotOf};
 ghost use Rattle.image.specs.State.{stateSize, decodeState};
 ghost use Rattle.forest.specs.Walk.{walkDown};
 ghost use Rattle.links.specs.Summary.{liveAt, kidsAt};

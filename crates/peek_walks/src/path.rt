@@ -1,9 +1,9 @@
 // The slots from a root down to a slot of a lent image. `RootToChildIter` of context.rs.
 use children::MAX_HANDLES;
+use context::ROOT_INDEX;
 use error::DpeErrorCode;
 use error::InternalErrorCode;
 use peek::slot;
-use table::context::ROOT_INDEX;
 use table::state::Found;
 use walks::run;
 ghost use mathlib.Core.Path.{_≡_};
@@ -11,7 +11,7 @@ ghost use Prim.Native.Nat.{ℕ, _≤_};
 ghost use lib.ListN.{length, take};
 ghost use Rattle.children.specs.Below.{listOf};
 ghost use Rattle.children.specs.Marks.{slotCount};
-ghost use Rattle.table.specs.Context.{slotOf};
+ghost use Rattle.context.specs.Context.{slotOf};
 ghost use Rattle.image.specs.State.{stateSize, decodeState};
 ghost use Rattle.links.specs.Summary.{liveAt, parentAt, numberIn, stepsUp};
 ghost use Rattle.walks_path.specs.Path.{parentOf, lengthFrom, slotsOf, pathIn, slotsPlace};

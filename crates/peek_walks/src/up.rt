@@ -1,16 +1,16 @@
 // The run above a slot of a lent image, read slot by slot: the retired slots with one child each, upward without a break. destroy_context.rs.
 use children::Answer;
 use children::MAX_HANDLES;
+use context::ROOT_INDEX;
 use error::AddedErrorCode;
 use error::DpeErrorCode;
 use error::InternalErrorCode;
 use peek::slot;
-use table::context::ROOT_INDEX;
 use walks::run;
 ghost use mathlib.Core.Path.{_≡_};
 ghost use lib.ListN.{length};
 ghost use Rattle.children.specs.Marks.{slotCount};
-ghost use Rattle.table.specs.Context.{slotOf};
+ghost use Rattle.context.specs.Context.{slotOf};
 ghost use Rattle.image.specs.State.{stateSize, decodeState};
 ghost use Rattle.links.specs.Summary.{retiredAt, parentAt, kidsAt};
 ghost use Rattle.walks.specs.Walks.{runFrom};

@@ -1,13 +1,13 @@
 // What every call writes with: one field or one slot of a lent image, written where it lies; all else stays. Added; the Rust has no image.
+use context::Context;
+use context::handle;
+use context::u8bool;
 use image::state;
-use table::context::Context;
-use table::handle;
-use table::u8bool;
 ghost use Prim.Native.Nat.{_<_};
 ghost use mathlib.Core.Path.{_≡_};
 ghost use Rattle.error.specs.declared.Outcome.the-variants.{Done};
 ghost use Rattle.children.specs.Marks.{slotCount};
-ghost use Rattle.table.specs.Context.{slotOf, withHandle, withChildren};
+ghost use Rattle.context.specs.Context.{slotOf, withHandle, withChildren};
 ghost use Rattle.table.specs.State.{withSlot, withInitialized};
 ghost use Rattle.image.specs.State.{decodeState, readableOf};
 ghost use Rattle.place.specs.Place.{Holds};

@@ -9,9 +9,9 @@ use Rattle.error.specs.declared.DpeErrorCode.{DpeErrorCode}
 use Rattle.error.specs.declared.Outcome.the-variants.{Done, Refused}
 use Rattle.children.specs.Marks.{slotCount, marked, without}
 use Rattle.children.proofs.Below.{length-listOf}
-use Rattle.table.specs.declared.context.Context.{Context}
+use Rattle.context.specs.declared.Context.{Context}
 use Rattle.table.specs.declared.state.State.{State}
-use Rattle.table.specs.Context.{noContext, slotOf, destroyed, withChildren}
+use Rattle.context.specs.Context.{noContext, slotOf, destroyed, withChildren}
 use Rattle.table.specs.State.{withContexts, withSlot}
 use Rattle.destroy_context.specs.declared.Destroyed.{Destroyed}
 use Rattle.destroy_context.specs.Destroy.{clearedSlot}

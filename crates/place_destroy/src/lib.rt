@@ -2,19 +2,19 @@
 // `destroy_context` has the name of the one by value, which says what it means.
 use children::Answer;
 use children::MAX_HANDLES;
+use context::handle;
 use error::Outcome;
 use peek::find;
 use peek::slot;
 use peek_walks::down;
 use peek_walks::up;
-use table::handle;
 use table::state::Found;
 ghost use Prim.Native.Nat.{_<_};
 ghost use mathlib.Core.Path.{_≡_};
 ghost use lib.ListN.{length};
 ghost use Rattle.error.specs.declared.Outcome.the-variants.{Done};
 ghost use Rattle.children.specs.Marks.{slotCount};
-ghost use Rattle.table.specs.Context.{slotOf};
+ghost use Rattle.context.specs.Context.{slotOf};
 ghost use Rattle.table.specs.State.{withSlot};
 ghost use Rattle.image.specs.State.{stateSize, decodeState, encodeState, readableOf};
 ghost use Rattle.destroy_context.specs.Destroy.{clearedSlot, clearedBy, doomedIn, destroyOf};

@@ -6,7 +6,7 @@ use Rattle.error.specs.declared.Outcome.{Outcome}
 use Rattle.error.specs.declared.Outcome.the-variants.{Done, Refused}
 use Rattle.children.specs.Marks.{slotCount}
 use Rattle.table.specs.declared.state.State.{State}
-use Rattle.table.specs.Context.{slotOf}
+use Rattle.context.specs.Context.{slotOf}
 use Rattle.candidates.specs.declared.Chosen.{Chosen}
 use Rattle.candidates.specs.Candidates.{chosenIn}
 use Rattle.initialize_context.specs.Initialize.{simulationOf}

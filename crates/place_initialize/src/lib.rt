@@ -1,14 +1,14 @@
 // Initialise on a lent image, where it lies: no table is built, and a refusal writes nothing. initialize_context.rs.
 // `initialize_context` has the name of the one by value, which says what it means.
 use candidates::Chosen;
+use context::ContextType;
+use context::handle;
 use error::DpeErrorCode;
 use error::Outcome;
 use image::state;
 use peek::choose;
 use peek::find;
-use table::context::ContextType;
 use table::flags;
-use table::handle;
 use table::state::Found;
 ghost use Prim.Native.Nat.{_<_};
 ghost use mathlib.Core.Path.{_≡_};

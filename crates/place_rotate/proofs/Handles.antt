@@ -9,9 +9,9 @@ use Rattle.error.specs.declared.Outcome.the-variants.{Done, Refused}
 use Rattle.children.specs.Marks.{slotCount, marked}
 use Rattle.table.specs.declared.state.State.{State}
 use Rattle.table.specs.declared.state.Found.the-variants.{At}
-use Rattle.table.specs.Bytes.{defaultHandle}
+use Rattle.context.specs.Bytes.{defaultHandle}
 use Rattle.table.specs.Flags.{rotateDefaultBit}
-use Rattle.table.specs.Context.{slotOf, withHandle}
+use Rattle.context.specs.Context.{slotOf, withHandle}
 use Rattle.table.specs.State.{withSlot, refusedOf}
 use Rattle.candidates.specs.declared.Chosen.{Chosen}
 use Rattle.candidates.specs.Candidates.{takenOf, untakenOf, chosenIn}

@@ -2,6 +2,7 @@
 // `rotate_context` has the name of the one by value, which says what it means.
 use candidates::Chosen;
 use children::MAX_HANDLES;
+use context::handle;
 use error::DpeErrorCode;
 use error::Outcome;
 use image::state;
@@ -9,7 +10,6 @@ use peek::choose;
 use peek::find;
 use peek::slot;
 use table::flags;
-use table::handle;
 use table::state::Found;
 use table::support;
 ghost use Prim.Native.Nat.{_<_};
@@ -18,8 +18,8 @@ ghost use mathlib.Core.Path.{_≡_};
 ghost use lib.ListN.{length};
 ghost use Rattle.error.specs.declared.Outcome.the-variants.{Done};
 ghost use Rattle.children.specs.Marks.{slotCount};
-ghost use Rattle.table.specs.Bytes.{isDefault};
-ghost use Rattle.table.specs.Context.{slotOf};
+ghost use Rattle.context.specs.Bytes.{isDefault};
+ghost use Rattle.context.specs.Context.{slotOf};
 ghost use Rattle.table.specs.declared.state.Found.the-variants.{At};
 ghost use Rattle.image.specs.State.{stateSize, decodeState, readableOf};
 ghost use Rattle.lookup.specs.Lookup.{activeIn};

@@ -10,9 +10,9 @@ use Rattle.children.specs.Marks.{markCount, marked, without}
 use Rattle.children.proofs.Cases.{two, clash, and-true, and-both, not-true}
 use Rattle.children.proofs.Below.{count-some}
 use Rattle.children.proofs.Marks.{marked-none, marked-without, without-word}
-use Rattle.table.specs.declared.context.ContextState.the-variants.{Retired}
-use Rattle.table.specs.declared.context.Context.{Context}
-use Rattle.table.specs.Context.{noParent, destroyed, withChildren, isLive, isRetired}
+use Rattle.context.specs.declared.ContextState.the-variants.{Retired}
+use Rattle.context.specs.declared.Context.{Context}
+use Rattle.context.specs.Context.{noParent, destroyed, withChildren, isLive, isRetired}
 use Rattle.forest.specs.Links.{Linked, Rooted}
 use Rattle.forest.specs.Destroy.{clear, Doomed}
 use Rattle.forest.proofs.Slots.{clear-in, again}

@@ -7,9 +7,9 @@ use borrow.Author.Tests.{lt-ltb}
 use Rattle.error.specs.declared.DpeErrorCode.the-variants.{InvalidHandle}
 use Rattle.children.specs.declared.Answer.the-variants.{Marks}
 use Rattle.children.specs.Marks.{slotCount, markCount, marked}
-use Rattle.table.specs.declared.context.Context.{Context}
+use Rattle.context.specs.declared.Context.{Context}
 use Rattle.table.specs.declared.state.State.{State}
-use Rattle.table.specs.Context.{slotOf}
+use Rattle.context.specs.Context.{slotOf}
 use Rattle.forest.specs.Walk.{ok, walkDown}
 use Rattle.forest.proofs.Descend.{descends}
 use Rattle.links.specs.Summary.{liveAt, retiredAt, parentAt, kidsAt, tableOf, Words}

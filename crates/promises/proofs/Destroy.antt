@@ -13,11 +13,11 @@ use Rattle.children.specs.declared.Answer.the-variants.{Marks}
 use Rattle.children.specs.Marks.{slotCount}
 use Rattle.children.proofs.Cases.{clash}
 use Rattle.children.proofs.Below.{length-listOf, listOf-at}
-use Rattle.table.specs.declared.context.Context.{Context}
+use Rattle.context.specs.declared.Context.{Context}
 use Rattle.table.specs.declared.state.State.{State}
 use Rattle.table.specs.declared.state.Found.{Found}
 use Rattle.table.specs.declared.state.Found.the-variants as found
-use Rattle.table.specs.Context.{noContext, slotOf}
+use Rattle.context.specs.Context.{noContext, slotOf}
 use Rattle.forest.specs.Destroy.{doomedWord, Destruction}
 use Rattle.forest.proofs.Destroy.{destruction}
 use Rattle.links.specs.Summary.{liveAt, retiredAt, parentAt, kidsAt, tableOf, Words}

@@ -14,15 +14,15 @@ use borrow.Author.Tests.{lt-ltb, eq-eqb, ne-eqb}
 use Rattle.children.specs.Marks.{slotCount, markCount, marked}
 use Rattle.children.proofs.Cases.{two, clash, and-right, not-false, eqb-true}
 use Rattle.children.proofs.Marks.{marked-none}
-use Rattle.table.specs.declared.context.ContextState.{ContextState}
-use Rattle.table.specs.declared.context.ContextState.the-variants.{Inactive, Active, Retired}
-use Rattle.table.specs.declared.context.ContextType.{ContextType}
-use Rattle.table.specs.declared.context.ContextType.the-variants.{Normal, Simulation}
-use Rattle.table.specs.declared.context.Context.{Context}
+use Rattle.context.specs.declared.ContextState.{ContextState}
+use Rattle.context.specs.declared.ContextState.the-variants.{Inactive, Active, Retired}
+use Rattle.context.specs.declared.ContextType.{ContextType}
+use Rattle.context.specs.declared.ContextType.the-variants.{Normal, Simulation}
+use Rattle.context.specs.declared.Context.{Context}
 use Rattle.table.specs.declared.state.State.{State}
-use Rattle.table.specs.Bytes.{isOn, defaultHandle}
+use Rattle.context.specs.Bytes.{isOn, defaultHandle}
 use Rattle.table.specs.Flags.{simulationBit}
-use Rattle.table.specs.Context.{noParent, noContext, activeContext, isLive, isInactive, isRetired, slotOf}
+use Rattle.context.specs.Context.{noParent, noContext, activeContext, isLive, isInactive, isRetired, slotOf}
 use Rattle.forest.specs.Links.{Table, Linked, Rooted}
 use Rattle.forest.proofs.Slots.{table-ext}
 use Rattle.links.specs.Summary.{tableOf}

@@ -5,11 +5,11 @@ use Prim.Native.Nat.{ℕ, zero, suc, _≤_, _<_}
 use native.Mathlib.Omega.{arith}
 use Rattle.children.specs.Marks.{markCount}
 use Rattle.children.proofs.Cases.{clash}
-use Rattle.table.specs.declared.context.ContextState.{ContextState}
-use Rattle.table.specs.declared.context.ContextState.the-variants.{Inactive, Active, Retired}
-use Rattle.table.specs.declared.context.ContextType.the-variants.{Normal}
-use Rattle.table.specs.declared.context.Context.{Context}
-use Rattle.table.specs.Context.{noParent}
+use Rattle.context.specs.declared.ContextState.{ContextState}
+use Rattle.context.specs.declared.ContextState.the-variants.{Inactive, Active, Retired}
+use Rattle.context.specs.declared.ContextType.the-variants.{Normal}
+use Rattle.context.specs.declared.Context.{Context}
+use Rattle.context.specs.Context.{noParent}
 use Rattle.forest.specs.Links.{up}
 use Rattle.forest.proofs.Links.{up-in, no-slot}
 use Rattle.links.specs.Summary.{tableOf}

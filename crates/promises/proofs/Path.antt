@@ -9,10 +9,10 @@ use borrow.Author.Tests.{lt-ltb}
 use Rattle.children.specs.Marks.{slotCount, markCount}
 use Rattle.children.proofs.Cases.{clash, and-true}
 use Rattle.children.proofs.Below.{listOf-at}
-use Rattle.table.specs.declared.context.Context.{Context}
+use Rattle.context.specs.declared.Context.{Context}
 use Rattle.table.specs.declared.state.State.{State}
 use Rattle.table.specs.declared.state.Found.the-variants.{At}
-use Rattle.table.specs.Context.{noParent, slotOf}
+use Rattle.context.specs.Context.{noParent, slotOf}
 use Rattle.forest.specs.Links.{Linked, up}
 use Rattle.forest.proofs.Links.{up-in, no-slot, live-below, near-iff}
 use Rattle.links.specs.Summary.{liveAt, parentAt, stepsUp, tableOf}

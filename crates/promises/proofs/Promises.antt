@@ -3,7 +3,7 @@
 use mathlib.Core.Path.{_≡_}
 use Rattle.children.specs.Marks.{slotCount}
 use Rattle.table.specs.declared.state.State.{State}
-use Rattle.table.specs.Context.{slotOf}
+use Rattle.context.specs.Context.{slotOf}
 use Rattle.links.specs.Summary.{Words}
 use Rattle.verdict.specs.declared.Verdict.the-variants.{Valid}
 use Rattle.verdict.specs.Tests.{verdictOf}

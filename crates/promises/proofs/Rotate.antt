@@ -9,10 +9,10 @@ use lib.Seq.{getD-set-same, getD-set-other}
 use borrow.Author.Tests.{eq-eqb}
 use Rattle.children.specs.Marks.{slotCount, markCount}
 use Rattle.children.proofs.Cases.{and-both}
-use Rattle.table.specs.declared.context.Context.{Context}
+use Rattle.context.specs.declared.Context.{Context}
 use Rattle.table.specs.declared.state.State.{State}
-use Rattle.table.specs.Bytes.{defaultHandle}
-use Rattle.table.specs.Context.{withHandle, noContext, isActive, slotOf}
+use Rattle.context.specs.Bytes.{defaultHandle}
+use Rattle.context.specs.Context.{withHandle, noContext, isActive, slotOf}
 use Rattle.table.specs.State.{withSlot}
 use Rattle.rotate_context.specs.Rotate.{rotatedOf}
 use Rattle.rotate_context.proofs.Rotate.{unchanged, to-zero, to-taken, ended, alone-iff}

@@ -11,12 +11,12 @@ use Rattle.children.specs.Below.{count}
 use Rattle.children.specs.Marks.{slotCount, markCount, marked}
 use Rattle.children.proofs.Cases.{clash, and-true}
 use Rattle.children.proofs.Below.{count-pos}
-use Rattle.table.specs.declared.context.ContextState.{ContextState}
-use Rattle.table.specs.declared.context.ContextState.the-variants.{Inactive, Active, Retired}
-use Rattle.table.specs.declared.context.ContextType.the-variants.{Normal}
-use Rattle.table.specs.declared.context.Context.{Context}
+use Rattle.context.specs.declared.ContextState.{ContextState}
+use Rattle.context.specs.declared.ContextState.the-variants.{Inactive, Active, Retired}
+use Rattle.context.specs.declared.ContextType.the-variants.{Normal}
+use Rattle.context.specs.declared.Context.{Context}
 use Rattle.table.specs.declared.state.State.{State}
-use Rattle.table.specs.Context.{noContext, isRetired, slotOf}
+use Rattle.context.specs.Context.{noContext, isRetired, slotOf}
 use Rattle.table.specs.State.{magic, versionNumber}
 use Rattle.forest.specs.Links.{Linked, Rooted}
 use Rattle.forest.proofs.Slots.{fits-in}

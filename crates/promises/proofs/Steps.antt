@@ -11,7 +11,7 @@ use Rattle.children.specs.Below.{count}
 use Rattle.children.specs.Marks.{markCount, marked}
 use Rattle.children.proofs.Cases.{and-true, and-both, eqb-true, true-eqb, ltb-true}
 use Rattle.children.proofs.Below.{count-same}
-use Rattle.table.specs.declared.context.Context.{Context}
+use Rattle.context.specs.declared.Context.{Context}
 use Rattle.forest.specs.Links.{Linked, up, Below}
 use Rattle.forest.specs.Run.{single, Run, here, next}
 use Rattle.forest.specs.Destroy.{Doomed}

@@ -11,12 +11,12 @@ use Rattle.error.specs.declared.DpeErrorCode.the-variants.{InvalidHandle, Inval
 use Rattle.error.specs.declared.Outcome.the-variants.{Done, Refused}
 use Rattle.children.specs.declared.Answer.the-variants.{Marks}
 use Rattle.children.specs.Marks.{slotCount, markCount, marked, countBelow}
-use Rattle.table.specs.declared.context.ContextState.the-variants.{Retired}
-use Rattle.table.specs.declared.context.Context.{Context}
+use Rattle.context.specs.declared.ContextState.the-variants.{Retired}
+use Rattle.context.specs.declared.Context.{Context}
 use Rattle.table.specs.declared.state.State.{State}
 use Rattle.table.specs.declared.state.Found.the-variants as found
-use Rattle.table.specs.Bytes.{defaultHandle}
-use Rattle.table.specs.Context.{noParent, destroyed, withChildren, slotOf}
+use Rattle.context.specs.Bytes.{defaultHandle}
+use Rattle.context.specs.Context.{noParent, destroyed, withChildren, slotOf}
 use Rattle.lookup.specs.Lookup.{lookupIn}
 use Rattle.walks_path.specs.declared.Path.{Path}
 use Rattle.walks.specs.Walks.{descendantsIn}

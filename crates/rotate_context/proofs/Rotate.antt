@@ -13,14 +13,14 @@ use Rattle.children.specs.Below.{some}
 use Rattle.children.specs.Marks.{slotCount, marked}
 use Rattle.children.proofs.Cases.{two, clash, and-both, and-left, and-right, or-cases, or-left, or-right, or-none, not-false, eqb-true, true-eqb}
 use Rattle.children.proofs.Below.{some-next, some-of, none-of}
-use Rattle.table.specs.declared.context.Context.{Context}
+use Rattle.context.specs.declared.Context.{Context}
 use Rattle.table.specs.declared.state.State.{State}
 use Rattle.table.specs.declared.state.Found.{Found}
 use Rattle.table.specs.declared.state.Found.the-variants.{At, Refused}
 use Rattle.table.specs.declared.state.NewHandle.{NewHandle}
-use Rattle.table.specs.Bytes.{isDefault, defaultHandle}
+use Rattle.context.specs.Bytes.{isDefault, defaultHandle}
 use Rattle.table.specs.Flags.{rotateBit, rotateDefaultBit}
-use Rattle.table.specs.Context.{slotOf}
+use Rattle.context.specs.Context.{slotOf}
 use Rattle.table.specs.State.{refusedOf}
 use Rattle.lookup.specs.Lookup.{activeIn, lookupIn}
 use Rattle.lookup.proofs.Lookup.{Target, found-iff, some-iff}

@@ -9,14 +9,14 @@ use Rattle.error.specs.declared.Outcome.{Outcome}
 use Rattle.error.specs.declared.Outcome.the-variants as outcome
 use Rattle.children.specs.Below.{some}
 use Rattle.children.specs.Marks.{slotCount, marked}
-use Rattle.table.specs.declared.context.Context.{Context}
+use Rattle.context.specs.declared.Context.{Context}
 use Rattle.table.specs.declared.state.State.{State}
 use Rattle.table.specs.declared.state.Found.{Found}
 use Rattle.table.specs.declared.state.Found.the-variants as found
 use Rattle.table.specs.declared.state.NewHandle.{NewHandle}
-use Rattle.table.specs.Bytes.{isDefault, defaultHandle}
+use Rattle.context.specs.Bytes.{isDefault, defaultHandle}
 use Rattle.table.specs.Flags.{rotateBit, rotateDefaultBit}
-use Rattle.table.specs.Context.{withHandle, slotOf}
+use Rattle.context.specs.Context.{withHandle, slotOf}
 use Rattle.table.specs.State.{withSlot, refusedOf, handedOf}
 use Rattle.lookup.specs.Lookup.{activeIn, lookupIn}
 use Rattle.candidates.specs.Candidates.{chosenIn}

@@ -1,12 +1,11 @@
 // Writes the sample images to standard output, one after another. samples/ has each in a file of its own, with its listing.
 use children::MAX_HANDLES;
+use context::ActiveContextArgs;
+use context::Context;
+use context::ContextState;
+use context::ContextType;
+use context::handle;
 use libc::STDOUT_FILENO;
-use table::context;
-use table::context::ActiveContextArgs;
-use table::context::Context;
-use table::context::ContextState;
-use table::context::ContextType;
-use table::handle;
 use table::state;
 use table::state::State;
 use table::support;

@@ -4,18 +4,18 @@ use Prim.Native.Nat.{ℕ, zero, suc, _<_}
 use native.Mathlib.Nat.{le-of-suc-le-suc, not-suc-le-zero}
 use mathlib.Core.Path.{_≡_, sym, _∙_}
 use mathlib.Core.List.{List, [], _∷_, map}
-use lib.ListN.{length, length-map, getD}
+use lib.ListN.{length, length-map}
 use mir.Val.{Val}
 use denote.Laws.{Is}
 use denote.Shadow.{shadow}
 use denote.Array.{each}
 use denote.Struct.Laws.{owed}
 use Rattle.children.specs.Marks.{slotCount}
-use Rattle.table.specs.Bytes.{handleSize, tciSize}
-use Rattle.table.specs.Context.{slotOf}
-use Rattle.table.specs.declared.context.Context.{Context}
+use Rattle.context.specs.Bytes.{handleSize, tciSize}
+use Rattle.context.specs.Context.{slotOf}
+use Rattle.context.specs.declared.Context.{Context}
 use Rattle.table.specs.declared.state.State.{State}
-use Rattle.table.proofs.context.Context as context
+use Rattle.context.proofs.Context as context
 use Rattle.table.proofs.state.State.{the-type, the-row}
 use Rattle.table.proofs.state.State.Laws.{the-laws}
 

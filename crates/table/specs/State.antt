@@ -10,14 +10,14 @@ use Rattle.error.specs.declared.DpeErrorCode.the-variants.{MaxTcis}
 use Rattle.error.specs.declared.Outcome.the-variants as outcome
 use Rattle.children.specs.Below.{count, lowest}
 use Rattle.children.specs.Marks.{slotCount}
-use Rattle.table.specs.declared.context.ContextState.{ContextState}
-use Rattle.table.specs.declared.context.Context.{Context}
+use Rattle.context.specs.declared.ContextState.{ContextState}
+use Rattle.context.specs.declared.Context.{Context}
 use Rattle.table.specs.declared.state.State.{State}
 use Rattle.table.specs.declared.state.Found.{Found}
 use Rattle.table.specs.declared.state.Found.the-variants.{At, Refused}
 use Rattle.table.specs.declared.state.NewHandle.{NewHandle}
-use Rattle.table.specs.Bytes.{defaultHandle}
-use Rattle.table.specs.Context.{newContext, sameState, isInactive}
+use Rattle.context.specs.Bytes.{defaultHandle}
+use Rattle.context.specs.Context.{newContext, sameState, isInactive}
 
 -- the marker and the version that a table must have
 abbrev pub magic : ℕ

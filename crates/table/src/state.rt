@@ -1,15 +1,14 @@
 // The whole table, and what is counted and looked for in it. state.rs.
-use crate::context;
-use crate::context::Context;
-use crate::context::ContextState;
-use crate::handle;
 use children::MAX_HANDLES;
+use context::Context;
+use context::ContextState;
+use context::handle;
 use error::DpeErrorCode;
 use error::Outcome;
 ghost use mathlib.Core.Path.{_≡_};
 ghost use Prim.Native.Nat.{_<_};
 ghost use Rattle.children.specs.Marks.{slotCount};
-ghost use Rattle.table.specs.Context.{slotOf};
+ghost use Rattle.context.specs.Context.{slotOf};
 ghost use Rattle.table.specs.State.{newState, withSlot, withInitialized, countIn, freeIn, refusedOf};
 
 // "DPES", read as a big-endian number.

@@ -7,10 +7,10 @@ use Rattle.error.specs.declared.DpeErrorCode.the-variants.{Validation}
 use Rattle.error.specs.declared.ValidationError.the-variants.{CyclesInTree}
 use Rattle.children.specs.Below.{count}
 use Rattle.children.specs.Marks.{marked}
-use Rattle.table.specs.declared.context.ContextType.the-variants.{Normal}
+use Rattle.context.specs.declared.ContextType.the-variants.{Normal}
 use Rattle.table.specs.declared.state.State.{State}
-use Rattle.table.specs.Bytes.{defaultHandle}
-use Rattle.table.specs.Context.{activeContext, noParent, slotOf}
+use Rattle.context.specs.Bytes.{defaultHandle}
+use Rattle.context.specs.Context.{activeContext, noParent, slotOf}
 use Rattle.table.specs.State.{newState, withSlot}
 use Rattle.text_row.specs.Row.{decimalFrom, decimalOf, numberThen, verdictLine, rowOf}
 use Rattle.text.specs.Text.{lineOf, rowsTo, linesFor, textOf}

@@ -14,9 +14,9 @@ use Rattle.error.specs.Numbers.{wordOf}
 use Rattle.children.specs.Marks.{slotCount}
 use Rattle.wire.specs.Le.{put}
 use Rattle.wire.proofs.Put.{put-nil}
-use Rattle.table.specs.declared.context.Context.{Context}
+use Rattle.context.specs.declared.Context.{Context}
 use Rattle.table.specs.declared.state.State.{State}
-use Rattle.table.specs.Context.{slotOf, isInactive}
+use Rattle.context.specs.Context.{slotOf, isInactive}
 use Rattle.image.specs.declared.state.StateRead.{StateRead}
 use Rattle.image_context.specs.Context.{first}
 use Rattle.image.specs.Fits.{Fits}

@@ -6,8 +6,8 @@ use Rattle.error.specs.declared.Outcome.{Outcome}
 use Rattle.error.specs.declared.Outcome.the-variants.{Done, Refused}
 use Rattle.error.specs.Numbers.{outerOf, innerOf}
 use Rattle.children.specs.Marks.{slotCount}
-use Rattle.table.specs.declared.context.Context.{Context}
-use Rattle.table.specs.Context.{slotOf, isInactive}
+use Rattle.context.specs.declared.Context.{Context}
+use Rattle.context.specs.Context.{slotOf, isInactive}
 use Rattle.image.specs.State.{decodeState}
 use Rattle.view.specs.declared.SlotFields.{SlotFields}
 use Rattle.view.specs.View.{fieldsOf}

@@ -1,6 +1,5 @@
 // The listing of an image as bytes, line by line: each function puts its text into the lent buffer from a place on, and answers the place behind it.
 use children::MAX_HANDLES;
-use table::context;
 use text_row::ROW_MOST;
 use text_row::VERDICT_MOST;
 use view::SlotFields;
@@ -10,7 +9,7 @@ ghost use lib.ListN.{length};
 ghost use Rattle.io.specs.Counts.{Counts};
 ghost use Rattle.children.specs.Marks.{slotCount};
 ghost use Rattle.wire.specs.Le.{put};
-ghost use Rattle.table.specs.Context.{slotOf};
+ghost use Rattle.context.specs.Context.{slotOf};
 ghost use Rattle.image.specs.State.{stateSize, decodeState};
 ghost use Rattle.text_row.specs.Row.{PutAt, rowMost};
 ghost use Rattle.text.specs.Text.{lineOf, rowsTo, listingOf};

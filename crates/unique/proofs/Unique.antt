@@ -19,22 +19,22 @@ use Rattle.children.proofs.add_children.Reads as children-add-children-reads
 use Rattle.children.proofs.remove_children.Reads as children-remove-children-reads
 use Rattle.children.proofs.count.Reads as children-count-reads
 use Rattle.children.proofs.next.Reads as children-next-reads
-use Rattle.table.proofs.context.Context.new.Reads as table-context-context-new-reads
-use Rattle.table.proofs.context.Context.activate.Reads as table-context-context-activate-reads
-use Rattle.table.proofs.context.Context.destroy.Reads as table-context-context-destroy-reads
-use Rattle.table.proofs.context.Context.add_child.Reads as table-context-context-add-child-reads
-use Rattle.table.proofs.context.is_inactive.Reads as table-context-is-inactive-reads
-use Rattle.table.proofs.context.is_active.Reads as table-context-is-active-reads
-use Rattle.table.proofs.context.is_retired.Reads as table-context-is-retired-reads
-use Rattle.table.proofs.context.same_state.Reads as table-context-same-state-reads
-use Rattle.table.proofs.context.is_normal.Reads as table-context-is-normal-reads
+use Rattle.context.proofs.Context.new.Reads as context-context-new-reads
+use Rattle.context.proofs.Context.activate.Reads as context-context-activate-reads
+use Rattle.context.proofs.Context.destroy.Reads as context-context-destroy-reads
+use Rattle.context.proofs.Context.add_child.Reads as context-context-add-child-reads
+use Rattle.context.proofs.is_inactive.Reads as context-is-inactive-reads
+use Rattle.context.proofs.is_active.Reads as context-is-active-reads
+use Rattle.context.proofs.is_retired.Reads as context-is-retired-reads
+use Rattle.context.proofs.same_state.Reads as context-same-state-reads
+use Rattle.context.proofs.is_normal.Reads as context-is-normal-reads
 use Rattle.table.proofs.flags.flag_is_simulation.Reads as table-flags-flag-is-simulation-reads
 use Rattle.table.proofs.flags.flag_is_default.Reads as table-flags-flag-is-default-reads
 use Rattle.table.proofs.flags.uses_target_is_default.Reads as table-flags-uses-target-is-default-reads
-use Rattle.table.proofs.handle.default.Reads as table-handle-default-reads
-use Rattle.table.proofs.handle.new_invalid.Reads as table-handle-new-invalid-reads
-use Rattle.table.proofs.handle.equals.Reads as table-handle-equals-reads
-use Rattle.table.proofs.handle.is_default.Reads as table-handle-is-default-reads
+use Rattle.context.proofs.handle.default.Reads as context-handle-default-reads
+use Rattle.context.proofs.handle.new_invalid.Reads as context-handle-new-invalid-reads
+use Rattle.context.proofs.handle.equals.Reads as context-handle-equals-reads
+use Rattle.context.proofs.handle.is_default.Reads as context-handle-is-default-reads
 use Rattle.table.proofs.state.State.new.Reads as table-state-state-new-reads
 use Rattle.table.proofs.state.with_context.Reads as table-state-with-context-reads
 use Rattle.table.proofs.state.with_initialized.Reads as table-state-with-initialized-reads
@@ -46,9 +46,9 @@ use Rattle.table.proofs.support.rotate_context.Reads as table-support-rotate-co
 use Rattle.table.proofs.support.x509.Reads as table-support-x509-reads
 use Rattle.table.proofs.support.internal_info.Reads as table-support-internal-info-reads
 use Rattle.table.proofs.support.internal_dice.Reads as table-support-internal-dice-reads
-use Rattle.table.proofs.tci.TciNodeData.new.Reads as table-tci-tcinodedata-new-reads
-use Rattle.table.proofs.u8bool.get.Reads as table-u8bool-get-reads
-use Rattle.table.proofs.u8bool.new.Reads as table-u8bool-new-reads
+use Rattle.context.proofs.tci.TciNodeData.new.Reads as context-tci-tcinodedata-new-reads
+use Rattle.context.proofs.u8bool.get.Reads as context-u8bool-get-reads
+use Rattle.context.proofs.u8bool.new.Reads as context-u8bool-new-reads
 use Rattle.links.proofs.links_of.Reads as links-links-of-reads
 use Rattle.walks.proofs.descendants.descend.Reads as walks-descendants-descend-reads
 use Rattle.walks.proofs.descendants.get_descendants.Reads as walks-descendants-get-descendants-reads
@@ -196,32 +196,32 @@ children-count κ a r r′ s s′ = one
 pub children-next : OneResult children-next-reads.Post
 children-next κ a r r′ s s′ = one
 
-pub table-context-context-new : OneResult table-context-context-new-reads.Post
-table-context-context-new κ a r r′ s s′ = one
+pub context-context-new : OneResult context-context-new-reads.Post
+context-context-new κ a r r′ s s′ = one
 
-pub table-context-context-activate : OneResult table-context-context-activate-reads.Post
-table-context-context-activate κ a r r′ s s′ = one
+pub context-context-activate : OneResult context-context-activate-reads.Post
+context-context-activate κ a r r′ s s′ = one
 
-pub table-context-context-destroy : OneResult table-context-context-destroy-reads.Post
-table-context-context-destroy κ a r r′ s s′ = one
+pub context-context-destroy : OneResult context-context-destroy-reads.Post
+context-context-destroy κ a r r′ s s′ = one
 
-pub table-context-context-add-child : OneResult table-context-context-add-child-reads.Post
-table-context-context-add-child κ a r r′ s s′ = one
+pub context-context-add-child : OneResult context-context-add-child-reads.Post
+context-context-add-child κ a r r′ s s′ = one
 
-pub table-context-is-inactive : OneResult table-context-is-inactive-reads.Post
-table-context-is-inactive κ a r r′ s s′ = one
+pub context-is-inactive : OneResult context-is-inactive-reads.Post
+context-is-inactive κ a r r′ s s′ = one
 
-pub table-context-is-active : OneResult table-context-is-active-reads.Post
-table-context-is-active κ a r r′ s s′ = one
+pub context-is-active : OneResult context-is-active-reads.Post
+context-is-active κ a r r′ s s′ = one
 
-pub table-context-is-retired : OneResult table-context-is-retired-reads.Post
-table-context-is-retired κ a r r′ s s′ = one
+pub context-is-retired : OneResult context-is-retired-reads.Post
+context-is-retired κ a r r′ s s′ = one
 
-pub table-context-same-state : OneResult table-context-same-state-reads.Post
-table-context-same-state κ a r r′ s s′ = one
+pub context-same-state : OneResult context-same-state-reads.Post
+context-same-state κ a r r′ s s′ = one
 
-pub table-context-is-normal : OneResult table-context-is-normal-reads.Post
-table-context-is-normal κ a r r′ s s′ = one
+pub context-is-normal : OneResult context-is-normal-reads.Post
+context-is-normal κ a r r′ s s′ = one
 
 pub table-flags-flag-is-simulation : OneResult table-flags-flag-is-simulation-reads.Post
 table-flags-flag-is-simulation κ a r r′ s s′ = one
@@ -232,17 +232,17 @@ table-flags-flag-is-default κ a r r′ s s′ = one
 pub table-flags-uses-target-is-default : OneResult table-flags-uses-target-is-default-reads.Post
 table-flags-uses-target-is-default κ a r r′ s s′ = one
 
-pub table-handle-default : OneResult table-handle-default-reads.Post
-table-handle-default κ a r r′ s s′ = one
+pub context-handle-default : OneResult context-handle-default-reads.Post
+context-handle-default κ a r r′ s s′ = one
 
-pub table-handle-new-invalid : OneResult table-handle-new-invalid-reads.Post
-table-handle-new-invalid κ a r r′ s s′ = one
+pub context-handle-new-invalid : OneResult context-handle-new-invalid-reads.Post
+context-handle-new-invalid κ a r r′ s s′ = one
 
-pub table-handle-equals : OneResult table-handle-equals-reads.Post
-table-handle-equals κ a r r′ s s′ = one
+pub context-handle-equals : OneResult context-handle-equals-reads.Post
+context-handle-equals κ a r r′ s s′ = one
 
-pub table-handle-is-default : OneResult table-handle-is-default-reads.Post
-table-handle-is-default κ a r r′ s s′ = one
+pub context-handle-is-default : OneResult context-handle-is-default-reads.Post
+context-handle-is-default κ a r r′ s s′ = one
 
 pub table-state-state-new : OneResult table-state-state-new-reads.Post
 table-state-state-new κ a r r′ s s′ = one
@@ -277,14 +277,14 @@ table-support-internal-info κ a r r′ s s′ = one
 pub table-support-internal-dice : OneResult table-support-internal-dice-reads.Post
 table-support-internal-dice κ a r r′ s s′ = one
 
-pub table-tci-tcinodedata-new : OneResult table-tci-tcinodedata-new-reads.Post
-table-tci-tcinodedata-new κ a r r′ s s′ = one
+pub context-tci-tcinodedata-new : OneResult context-tci-tcinodedata-new-reads.Post
+context-tci-tcinodedata-new κ a r r′ s s′ = one
 
-pub table-u8bool-get : OneResult table-u8bool-get-reads.Post
-table-u8bool-get κ a r r′ s s′ = one
+pub context-u8bool-get : OneResult context-u8bool-get-reads.Post
+context-u8bool-get κ a r r′ s s′ = one
 
-pub table-u8bool-new : OneResult table-u8bool-new-reads.Post
-table-u8bool-new κ a r r′ s s′ = one
+pub context-u8bool-new : OneResult context-u8bool-new-reads.Post
+context-u8bool-new κ a r r′ s s′ = one
 
 pub links-links-of : OneResult links-links-of-reads.Post
 links-links-of κ a r r′ s s′ = one

@@ -8,8 +8,8 @@ use Rattle.error.specs.declared.ValidationError.{ValidationError}
 use Rattle.error.specs.declared.ValidationError.the-variants.{InvalidMarker, VersionMismatch}
 use Rattle.children.specs.Marks.{slotCount, markCount, marked}
 use Rattle.children.proofs.Below.{listOf-at}
-use Rattle.table.specs.declared.context.Context.{Context}
-use Rattle.table.specs.Bytes.{byteOf}
+use Rattle.context.specs.declared.Context.{Context}
+use Rattle.context.specs.Bytes.{byteOf}
 use Rattle.table.specs.State.{magic, versionNumber}
 use Rattle.forest.specs.Search.{findFault}
 use Rattle.forest.proofs.Search.{Agree}

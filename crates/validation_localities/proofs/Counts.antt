@@ -13,7 +13,7 @@ use Rattle.children.specs.Marks.{slotCount, marked, hasBelow}
 use Rattle.children.proofs.Cases.{clash, not-false, eqb-true, true-eqb}
 use Rattle.children.proofs.Below.{none-at}
 use Rattle.children.proofs.Marks.{has-is}
-use Rattle.table.specs.declared.context.Context.{Context}
+use Rattle.context.specs.declared.Context.{Context}
 use Rattle.links.specs.Summary.{marksOf}
 use Rattle.verdict.specs.Tests.{localityAt, defaultAt, otherAt, within, mixTest}
 use Rattle.verdict.proofs.Localities.{Lone}

@@ -4,7 +4,7 @@ use Prim.Native.Nat.{ℕ, suc}
 use lib.Dec.{eqb}
 use Rattle.children.specs.Below.{some, listOf}
 use Rattle.children.specs.Marks.{slotCount}
-use Rattle.table.specs.declared.context.Context.{Context}
+use Rattle.context.specs.declared.Context.{Context}
 use Rattle.links.specs.Summary.{marksOf}
 use Rattle.verdict.specs.Tests.{localityAt, defaultAt, otherAt}
 use Rattle.validation_localities.specs.declared.Places.{Places}

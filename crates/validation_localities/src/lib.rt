@@ -1,15 +1,14 @@
 // The validator's tests of the localities. validation.rs.
 use children::MAX_HANDLES;
+use context::handle;
 use error::ValidationError;
-use table::context;
-use table::handle;
 use table::state::State;
 use verdict::Verdict;
 ghost use mathlib.Core.Path.{_≡_};
 ghost use Prim.Native.Nat.{_<_};
 ghost use Rattle.children.specs.Below.{some};
 ghost use Rattle.children.specs.Marks.{slotCount, markCount, marked};
-ghost use Rattle.table.specs.Context.{slotOf};
+ghost use Rattle.context.specs.Context.{slotOf};
 ghost use Rattle.links.specs.Summary.{numberIn};
 ghost use Rattle.verdict.specs.Tests.{within, mixTest, localityOf, localitiesTest};
 ghost use Rattle.validation_localities.specs.Summary.{placesOf, besideIn, crowdedIn, tally};

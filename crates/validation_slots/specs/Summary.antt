@@ -5,7 +5,7 @@ use Prim.Native.Nat.{ℕ}
 use lib.Dec.{eqb}
 use Rattle.error.specs.declared.ValidationError.the-variants.{ParentChildLinksCorrupted, InactiveChild}
 use Rattle.children.specs.Marks.{slotCount, marked}
-use Rattle.table.specs.declared.context.Context.{Context}
+use Rattle.context.specs.declared.Context.{Context}
 use Rattle.links.specs.Summary.{numberIn}
 use Rattle.verdict.specs.declared.Verdict.{Verdict}
 use Rattle.verdict.specs.Tests.{Header, need, first, linksTest, contextOf}

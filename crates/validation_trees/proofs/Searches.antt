@@ -16,7 +16,7 @@ use Rattle.children.specs.Marks.{slotCount, markCount, marked, with, without, c
 use Rattle.children.proofs.Cases.{two, clash}
 use Rattle.children.proofs.Below.{low-ge, low-le, low-bare, low-passes, count-none, count-some, every-at, at-every}
 use Rattle.children.proofs.Marks.{marked-without}
-use Rattle.table.specs.Context.{noParent}
+use Rattle.context.specs.Context.{noParent}
 use Rattle.forest.specs.Links.{Table}
 use Rattle.forest.specs.Search.{Verdict, cycles, mixed, fine, andThen, each, visit, isRoot, searchRoots, normalRoot, lastTests, judge, findFault}
 use Rattle.links.specs.Summary.{numberIn}

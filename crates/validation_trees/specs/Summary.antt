@@ -4,7 +4,7 @@ use mathlib.Core.List.{List, []}
 use Prim.Native.Nat.{ℕ}
 use Rattle.error.specs.declared.ValidationError.the-variants.{CyclesInTree, MixedContextTypeConnectedComponents}
 use Rattle.children.specs.Marks.{slotCount, marked}
-use Rattle.table.specs.Bytes.{byteOf}
+use Rattle.context.specs.Bytes.{byteOf}
 use Rattle.forest.specs.Links.{Table, linksIn}
 use Rattle.forest.specs.Search.{cycles, mixed, fine, visit, isRoot}
 use Rattle.forest.specs.Search as search

@@ -1,8 +1,7 @@
 // The validator's tests of the forest: types below each root, Normal roots, cycles. validation.rs.
 use children::MAX_HANDLES;
+use context::u8bool;
 use error::ValidationError;
-use table::context;
-use table::u8bool;
 use verdict::Verdict;
 ghost use mathlib.Core.Path.{_≡_};
 ghost use mathlib.Core.List.{[]};

@@ -5,9 +5,9 @@ use Prim.Native.Nat.{ℕ}
 use lib.ListN.{replicate}
 use Rattle.children.specs.Below.{count, every}
 use Rattle.children.specs.Marks.{slotCount, marked}
-use Rattle.table.specs.declared.context.Context.{Context}
-use Rattle.table.specs.Bytes.{sameBytes}
-use Rattle.table.specs.Context.{newContext, slotOf}
+use Rattle.context.specs.declared.Context.{Context}
+use Rattle.context.specs.Bytes.{sameBytes}
+use Rattle.context.specs.Context.{newContext, slotOf}
 use Rattle.table.specs.State.{newState}
 use Rattle.forest.specs.Search.{each, visit, searchRoots, lastTests, judge, findFault}
 use Rattle.verdict.specs.declared.Verdict.the-variants.{Valid}

@@ -8,12 +8,12 @@ use native.Mathlib.Omega.{arith}
 use Rattle.children.specs.Below.{count}
 use Rattle.children.proofs.Cases.{two, clash, and-true, not-true}
 use Rattle.children.proofs.Below.{count-some, count-pos, count-one, count-more}
-use Rattle.table.specs.declared.context.ContextState.{ContextState}
-use Rattle.table.specs.declared.context.ContextState.the-variants.{Inactive, Active, Retired}
-use Rattle.table.specs.declared.context.Context.{Context}
-use Rattle.table.specs.Bytes.{isDefault, defaultHandle}
-use Rattle.table.specs.Context.{isActive}
-use Rattle.table.proofs.Bytes.{same-iff}
+use Rattle.context.specs.declared.ContextState.{ContextState}
+use Rattle.context.specs.declared.ContextState.the-variants.{Inactive, Active, Retired}
+use Rattle.context.specs.declared.Context.{Context}
+use Rattle.context.specs.Bytes.{isDefault, defaultHandle}
+use Rattle.context.specs.Context.{isActive}
+use Rattle.context.proofs.Bytes.{same-iff}
 use Rattle.verdict.specs.declared.Verdict.the-variants.{Valid}
 use Rattle.verdict.specs.Tests.{localityAt, defaultAt, otherAt, within, mixTest, localityOf, localitiesTest, localitiesOf}
 use Rattle.verdict.specs.Rule.{Alone}

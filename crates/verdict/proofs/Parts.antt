@@ -10,9 +10,9 @@ use Rattle.error.specs.declared.ValidationError.{ValidationError}
 use Rattle.error.specs.declared.ValidationError.the-variants.{MultipleNormalConnectedComponents, CyclesInTree, MixedContextTypeConnectedComponents}
 use Rattle.children.specs.Marks.{markCount}
 use Rattle.children.proofs.Cases.{clash}
-use Rattle.table.specs.declared.context.ContextState.{ContextState}
-use Rattle.table.specs.declared.context.ContextState.the-variants.{Inactive, Active, Retired}
-use Rattle.table.specs.declared.context.Context.{Context}
+use Rattle.context.specs.declared.ContextState.{ContextState}
+use Rattle.context.specs.declared.ContextState.the-variants.{Inactive, Active, Retired}
+use Rattle.context.specs.declared.Context.{Context}
 use Rattle.forest.specs.Search.{Found, forest, mixedTypes, manyNormal, cyclic, findFault}
 use Rattle.links.specs.Summary.{tableOf}
 use Rattle.verdict.specs.declared.Verdict.{Verdict}

@@ -13,9 +13,9 @@ use Rattle.children.specs.Marks.{slotCount, markCount}
 use Rattle.children.specs.Below.{count}
 use Rattle.children.proofs.Cases.{two, clash, find, and-both, true-eqb}
 use Rattle.children.proofs.Below.{count-more}
-use Rattle.table.specs.declared.context.Context.{Context}
+use Rattle.context.specs.declared.Context.{Context}
 use Rattle.table.specs.declared.state.State.{State}
-use Rattle.table.specs.Context.{noParent, slotOf}
+use Rattle.context.specs.Context.{noParent, slotOf}
 use Rattle.table.specs.State.{magic, versionNumber}
 use Rattle.forest.specs.Links.{Linked, up, Rooted}
 use Rattle.forest.specs.Search.{Found, isRoot, normalRoot, findFault, Differ, Judged, is-mixed, is-many, is-cyclic, is-forest}

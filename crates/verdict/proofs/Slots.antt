@@ -11,15 +11,15 @@ use borrow.Author.Tests.{eq-eqb, ne-eqb}
 use Rattle.children.specs.Marks.{markCount, marked, countBelow}
 use Rattle.children.proofs.Cases.{clash}
 use Rattle.children.proofs.Below.{count-some, count-pos}
-use Rattle.table.specs.declared.context.ContextState.{ContextState}
-use Rattle.table.specs.declared.context.ContextState.the-variants.{Inactive, Active, Retired}
-use Rattle.table.specs.declared.context.ContextType.{ContextType}
-use Rattle.table.specs.declared.context.ContextType.the-variants.{Normal, Simulation}
-use Rattle.table.specs.declared.tci.TciNodeData.{TciNodeData}
-use Rattle.table.specs.declared.context.Context.{Context}
-use Rattle.table.specs.Bytes.{tciSize, isOn}
-use Rattle.table.specs.Context.{noParent, zeroTci, isLive, isNormal}
-use Rattle.table.proofs.Bytes.{same-iff}
+use Rattle.context.specs.declared.ContextState.{ContextState}
+use Rattle.context.specs.declared.ContextState.the-variants.{Inactive, Active, Retired}
+use Rattle.context.specs.declared.ContextType.{ContextType}
+use Rattle.context.specs.declared.ContextType.the-variants.{Normal, Simulation}
+use Rattle.context.specs.declared.tci.TciNodeData.{TciNodeData}
+use Rattle.context.specs.declared.Context.{Context}
+use Rattle.context.specs.Bytes.{tciSize, isOn}
+use Rattle.context.specs.Context.{noParent, zeroTci, isLive, isNormal}
+use Rattle.context.proofs.Bytes.{same-iff}
 use Rattle.links.specs.Summary.{parentAt, kidsAt}
 use Rattle.verdict.specs.declared.Verdict.the-variants.{Valid}
 use Rattle.verdict.specs.Tests.{Header, isZeroTci, supportOf, inactiveOf, parentTest, childTest, linksTest, linksAt, hasChild, stateOf, contextOf, slotTest}

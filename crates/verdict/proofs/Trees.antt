@@ -12,13 +12,13 @@ use Rattle.children.specs.Marks.{markCount, marked}
 use Rattle.children.proofs.Cases.{two, clash, and-true}
 use Rattle.children.proofs.Below.{count-pos, count-one, count-le-one}
 use Rattle.children.proofs.Marks.{marked-none}
-use Rattle.table.specs.declared.context.ContextState.{ContextState}
-use Rattle.table.specs.declared.context.ContextState.the-variants.{Inactive, Active, Retired}
-use Rattle.table.specs.declared.context.ContextType.{ContextType}
-use Rattle.table.specs.declared.context.ContextType.the-variants.{Normal, Simulation}
-use Rattle.table.specs.declared.context.Context.{Context}
-use Rattle.table.specs.Bytes.{byteOf}
-use Rattle.table.specs.Context.{noParent, isLive, isNormal}
+use Rattle.context.specs.declared.ContextState.{ContextState}
+use Rattle.context.specs.declared.ContextState.the-variants.{Inactive, Active, Retired}
+use Rattle.context.specs.declared.ContextType.{ContextType}
+use Rattle.context.specs.declared.ContextType.the-variants.{Normal, Simulation}
+use Rattle.context.specs.declared.Context.{Context}
+use Rattle.context.specs.Bytes.{byteOf}
+use Rattle.context.specs.Context.{noParent, isLive, isNormal}
 use Rattle.forest.specs.Links.{Linked, up, Rooted}
 use Rattle.forest.specs.Search.{Found, forest, mixedTypes, manyNormal, cyclic, normalRoot, In}
 use Rattle.forest.proofs.Links.{up-add, no-slot, live-up, live-below, stay, live-or-top, near-iff}

@@ -5,8 +5,8 @@ use Prim.Native.Nat.{ℕ, suc, _<_}
 use Rattle.error.specs.declared.ValidationError.{ValidationError}
 use Rattle.error.specs.declared.ValidationError.the-variants.{MultipleNormalConnectedComponents, CyclesInTree, InactiveContextInvalidParent, InactiveContextWithChildren, BadContextState, BadContextType, InactiveContextWithMeasurement, MixedContextLocality, MultipleDefaultContexts, SimulationNotSupported, ParentDoesNotExist, InternalDiceNotSupported, InternalInfoNotSupported, ChildDoesNotExist, InactiveContextWithFlagSet, LocalityMismatch, DanglingRetiredContext, MixedContextTypeConnectedComponents, ChildWithMultipleParents, ParentChildLinksCorrupted, AllowCaNotSupported, AllowX509NotSupported, InactiveParent, InactiveChild, DpeNotMarkedInitialized, InvalidMarker, VersionMismatch}
 use Rattle.children.specs.Below.{count}
-use Rattle.table.specs.declared.context.Context.{Context}
-use Rattle.table.specs.Context.{noParent}
+use Rattle.context.specs.declared.Context.{Context}
+use Rattle.context.specs.Context.{noParent}
 use Rattle.table.specs.State.{magic, versionNumber}
 use Rattle.verdict.specs.declared.Verdict.{Verdict}
 use Rattle.verdict.specs.declared.Verdict.the-variants.{Valid, Fault}

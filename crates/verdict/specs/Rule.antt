@@ -5,14 +5,14 @@ use mathlib.Core.Logic.{_≢_}
 use mathlib.Core.Bool.{true}
 use Prim.Native.Nat.{ℕ, _<_}
 use Rattle.children.specs.Marks.{slotCount, markCount, marked}
-use Rattle.table.specs.declared.context.ContextState.{ContextState}
-use Rattle.table.specs.declared.context.ContextState.the-variants.{Inactive, Active, Retired}
-use Rattle.table.specs.declared.context.ContextType.the-variants.{Normal, Simulation}
-use Rattle.table.specs.declared.context.Context.{Context}
+use Rattle.context.specs.declared.ContextState.{ContextState}
+use Rattle.context.specs.declared.ContextState.the-variants.{Inactive, Active, Retired}
+use Rattle.context.specs.declared.ContextType.the-variants.{Normal, Simulation}
+use Rattle.context.specs.declared.Context.{Context}
 use Rattle.table.specs.declared.state.State.{State}
-use Rattle.table.specs.Bytes.{defaultHandle}
+use Rattle.context.specs.Bytes.{defaultHandle}
 use Rattle.table.specs.Flags.{simulationBit, x509Bit, infoBit, diceBit}
-use Rattle.table.specs.Context.{noParent, zeroTci, slotOf}
+use Rattle.context.specs.Context.{noParent, zeroTci, slotOf}
 use Rattle.table.specs.State.{magic, versionNumber}
 use Rattle.links.specs.Summary.{parentAt, stepsUp}
 use Rattle.verdict.specs.Tests.{Header, headerOf}

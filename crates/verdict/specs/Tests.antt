@@ -11,14 +11,14 @@ use Rattle.error.specs.declared.Outcome.{Outcome}
 use Rattle.error.specs.declared.Outcome.the-variants.{Done, Refused}
 use Rattle.children.specs.Below.{count}
 use Rattle.children.specs.Marks.{slotCount, markCount, marked, countBelow}
-use Rattle.table.specs.declared.context.ContextState.{ContextState}
-use Rattle.table.specs.declared.context.ContextState.the-variants.{Inactive, Active, Retired}
-use Rattle.table.specs.declared.tci.TciNodeData.{TciNodeData}
-use Rattle.table.specs.declared.context.Context.{Context}
+use Rattle.context.specs.declared.ContextState.{ContextState}
+use Rattle.context.specs.declared.ContextState.the-variants.{Inactive, Active, Retired}
+use Rattle.context.specs.declared.tci.TciNodeData.{TciNodeData}
+use Rattle.context.specs.declared.Context.{Context}
 use Rattle.table.specs.declared.state.State.{State}
-use Rattle.table.specs.Bytes.{tciSize, sameBytes, isOn, byteOf, isDefault}
+use Rattle.context.specs.Bytes.{tciSize, sameBytes, isOn, byteOf, isDefault}
 use Rattle.table.specs.Flags.{simulationBit, x509Bit, infoBit, diceBit}
-use Rattle.table.specs.Context.{noParent, isActive, isNormal, slotOf}
+use Rattle.context.specs.Context.{noParent, isActive, isNormal, slotOf}
 use Rattle.table.specs.State.{magic, versionNumber}
 use Rattle.forest.specs.Search.{Found, forest, mixedTypes, manyNormal, cyclic, findFault}
 use Rattle.links.specs.Summary.{liveAt, simulationAt, parentAt, kidsAt, tableOf}

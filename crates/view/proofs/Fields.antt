@@ -7,9 +7,9 @@ use lib.ListN.{getD}
 use Rattle.children.specs.Marks.{slotCount}
 use Rattle.wire.specs.Le.{part, le}
 use Rattle.wire.proofs.Part.{part-part, getD-part}
-use Rattle.table.specs.Context.{slotOf}
-use Rattle.table.specs.declared.context.ContextState.{ContextState}
-use Rattle.table.specs.declared.context.ContextType.{ContextType}
+use Rattle.context.specs.Context.{slotOf}
+use Rattle.context.specs.declared.ContextState.{ContextState}
+use Rattle.context.specs.declared.ContextType.{ContextType}
 use Rattle.image_context.specs.Context.{contextSize, stateOf, typeOf, decodeContext}
 use Rattle.image.specs.State.{contextsAt, slotIn, decodeState}
 use Rattle.image.proofs.Reading.{state-slot}

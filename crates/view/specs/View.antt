@@ -1,5 +1,5 @@
 -- The fields of a slot that a view answers. Assumes nothing: these are definitions.
-use Rattle.table.specs.declared.context.Context.{Context}
+use Rattle.context.specs.declared.Context.{Context}
 use Rattle.view.specs.declared.SlotFields.{SlotFields}
 
 -- the fields of a context that a listing shows

@@ -1,9 +1,9 @@
 // A view of the lent image: the fields of a slot, read where they lie. No context is built.
 // `fields_at` does the work on the slice; the functions over the struct only take it apart or make it, and are proved by hand. Whoever calls
 // `slot_fields` has plain parameters, and needs no such proof.
+use context::ContextState;
+use context::ContextType;
 use image::state;
-use table::context::ContextState;
-use table::context::ContextType;
 ghost use mathlib.Core.Path.{_≡_};
 ghost use Prim.Native.Nat.{_<_};
 ghost use lib.ListN.{length};

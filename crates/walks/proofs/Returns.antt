@@ -1,6 +1,6 @@
 -- The walks of the Rust have no path and no bound. For every table, damaged ones included: WalkLoops is answered exactly where the Rust's walk
 -- returns at no number of steps, and every other answer is that walk's own. Assumes nothing.
-use mathlib.Core.Bool.{Bool, true, false}
+use mathlib.Core.Bool.{false}
 use mathlib.Core.Logic.{_≢_, _↔_}
 use mathlib.Core.Path.{_≡_, refl, sym, ap, _∙_}
 use Prim.Native.Nat.{ℕ, _+_, _<_}
@@ -11,7 +11,7 @@ use Rattle.error.specs.declared.DpeErrorCode.the-variants.{InternalError, Inval
 use Rattle.error.specs.declared.InternalErrorCode.the-variants.{DestroyParentIndexOob}
 use Rattle.error.specs.declared.AddedErrorCode.the-variants.{WalkLoops}
 use Rattle.children.specs.declared.Answer.the-variants.{Refused}
-use Rattle.table.specs.declared.context.Context.{Context}
+use Rattle.context.specs.declared.Context.{Context}
 use Rattle.forest.specs.Walk.{Answer, loops, bad, ok, walkDown, rustDown}
 use Rattle.forest.specs.Run.{singleIn, climb}
 use Rattle.forest.proofs.Enough.{enough, loops-iff-never, walk-enough}

@@ -7,7 +7,7 @@ use borrow.Author.Tests.{lt-ltb}
 use Rattle.error.specs.declared.DpeErrorCode.the-variants.{InternalError, InvalidHandle}
 use Rattle.error.specs.declared.InternalErrorCode.the-variants.{DestroyParentIndexOob}
 use Rattle.children.specs.Marks.{slotCount, marked, countBelow}
-use Rattle.table.specs.declared.context.Context.{Context}
+use Rattle.context.specs.declared.Context.{Context}
 use Rattle.forest.specs.Walk.{walkDown}
 use Rattle.forest.specs.Run.{singleIn, climb}
 use Rattle.forest.proofs.Enough.{walk-same}

@@ -1,13 +1,11 @@
 -- How the run above goes on, turn by turn. Assumes nothing.
-use mathlib.Core.Bool.{Bool, true, false, _&&_}
-use mathlib.Core.Path.{_≡_, refl, sym, ap, _∙_}
-use Prim.Native.Nat.{ℕ, zero, suc, _+_, _-_, _≤_, _<_}
-use native.Mathlib.Omega.{arith}
-use lib.Dec.{eqb}
+use mathlib.Core.Bool.{Bool, true, false}
+use mathlib.Core.Path.{_≡_, ap, _∙_}
+use Prim.Native.Nat.{ℕ, suc, _-_, _≤_, _<_}
 use borrow.Author.Tests.{lt-ltb, le-ltb, eq-eqb, ne-eqb}
 use Rattle.children.specs.Marks.{with, countBelow}
-use Rattle.table.specs.Context.{noParent}
-use Rattle.forest.specs.Walk.{Answer, loops, bad, ok}
+use Rattle.context.specs.Context.{noParent}
+use Rattle.forest.specs.Walk.{loops, bad, ok}
 use Rattle.forest.specs.Run.{singleIn, climb}
 
 module _ (n : ℕ) (passes : ℕ → Bool) (parent : ℕ → ℕ) (d : ℕ) (e : d ≡ suc (d - 1)) (a p : ℕ) where

@@ -8,7 +8,7 @@ use Rattle.error.specs.declared.InternalErrorCode.the-variants.{ContextIndexOob
 use Rattle.error.specs.declared.AddedErrorCode.the-variants.{WalkLoops}
 use Rattle.children.specs.declared.Answer.{Answer}
 use Rattle.children.specs.declared.Answer.the-variants.{Marks, Refused}
-use Rattle.table.specs.declared.context.Context.{Context}
+use Rattle.context.specs.declared.Context.{Context}
 use Rattle.forest.specs.Walk.{loops, bad, ok, walkDown}
 use Rattle.forest.specs.Walk as walk
 use Rattle.forest.specs.Run.{singleIn, climb}

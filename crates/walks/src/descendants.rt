@@ -9,7 +9,7 @@ ghost use mathlib.Core.Path.{_≡_};
 ghost use Prim.Native.Nat.{_<_};
 ghost use Rattle.error.specs.declared.DpeErrorCode.the-variants.{InvalidHandle};
 ghost use Rattle.children.specs.Marks.{slotCount, marked};
-ghost use Rattle.table.specs.Context.{slotOf};
+ghost use Rattle.context.specs.Context.{slotOf};
 ghost use Rattle.forest.specs.Walk.{walkDown};
 ghost use Rattle.links.specs.Summary.{numberIn};
 ghost use Rattle.walks.specs.Walks.{toldOf, descendantsIn};

@@ -1,12 +1,11 @@
 // The run above a slot: the retired slots with one child each, upward without a break. destroy_context.rs.
 use children::Answer;
 use children::MAX_HANDLES;
+use context::ROOT_INDEX;
 use error::AddedErrorCode;
 use error::DpeErrorCode;
 use error::InternalErrorCode;
-use table::context::ROOT_INDEX;
 ghost use mathlib.Core.Path.{_≡_};
-ghost use Prim.Native.Nat.{_<_};
 ghost use Rattle.children.specs.Marks.{slotCount, marked};
 ghost use Rattle.links.specs.Summary.{numberIn};
 ghost use Rattle.walks.specs.Walks.{runFrom};

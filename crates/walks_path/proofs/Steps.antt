@@ -19,7 +19,7 @@ use Rattle.children.proofs.Below.{length-listOf, listOf-at, listOf-same}
 use Rattle.children.proofs.Cases.{two, ltb-true, and-right}
 use Rattle.table.specs.declared.state.Found.{Found}
 use Rattle.table.specs.declared.state.Found.the-variants.{At, Refused}
-use Rattle.table.specs.Context.{noParent}
+use Rattle.context.specs.Context.{noParent}
 use Rattle.links.specs.Summary.{stepsUp}
 use Rattle.walks_path.specs.Path.{parentOf, onward, lengthFrom, slotsOf, pathOf, Climbs}
 

@@ -2,7 +2,7 @@
 use mathlib.Core.Path.{_≡_}
 use Prim.Native.Nat.{ℕ}
 use Rattle.children.specs.Marks.{slotCount, marked}
-use Rattle.table.specs.declared.context.Context.{Context}
+use Rattle.context.specs.declared.Context.{Context}
 use Rattle.links.specs.declared.Links.{Links}
 use Rattle.links.specs.Summary.{liveAt, parentAt, summaryOf, numberIn}
 use Rattle.links.proofs.Summary.{says-live, says-parent}

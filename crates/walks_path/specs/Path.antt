@@ -7,10 +7,10 @@ use lib.ListN.{replicate}
 use Rattle.error.specs.declared.DpeErrorCode.the-variants.{InternalError, InvalidHandle}
 use Rattle.error.specs.declared.InternalErrorCode.the-variants.{ContextIndexOob, TciNodeCountExceeded}
 use Rattle.children.specs.Below.{listOf}
-use Rattle.table.specs.declared.context.Context.{Context}
+use Rattle.context.specs.declared.Context.{Context}
 use Rattle.table.specs.declared.state.Found.{Found}
 use Rattle.table.specs.declared.state.Found.the-variants.{At, Refused}
-use Rattle.table.specs.Context.{noParent}
+use Rattle.context.specs.Context.{noParent}
 use Rattle.links.specs.Summary.{liveAt, parentAt, stepsUp}
 use Rattle.walks_path.specs.declared.Path.{Path}
 

@@ -1,15 +1,15 @@
 // The path: the slots from a root down to a slot. `RootToChildIter` of context.rs.
 // It runs over the summary of the links, and ends on every table.
 use children::MAX_HANDLES;
+use context::ROOT_INDEX;
 use error::DpeErrorCode;
 use error::InternalErrorCode;
-use table::context::ROOT_INDEX;
 use table::state::Found;
 use table::state::State;
 use walks::run;
 ghost use mathlib.Core.Path.{_≡_};
 ghost use Rattle.children.specs.Marks.{slotCount, marked};
-ghost use Rattle.table.specs.Context.{slotOf};
+ghost use Rattle.context.specs.Context.{slotOf};
 ghost use Prim.Native.Nat.{_<_};
 ghost use Rattle.links.specs.Summary.{numberIn, stepsUp};
 ghost use Rattle.walks_path.specs.Path.{parentOf, lengthFrom, slotsOf, pathOf, pathIn, Climbs};

@@ -9,8 +9,8 @@ use Rattle.children.specs.Below.{some, lowestFrom, lowest}
 use Rattle.children.specs.Marks.{slotCount}
 use Rattle.children.proofs.Cases.{or-none}
 use Rattle.children.proofs.Below.{some-next, some-of}
-use Rattle.table.specs.Bytes.{handleSize}
-use Rattle.table.specs.Context.{slotOf}
+use Rattle.context.specs.Bytes.{handleSize}
+use Rattle.context.specs.Context.{slotOf}
 use Rattle.candidates.specs.Candidates.{attempts, hasHandle, usableAt}
 use Rattle.candidates.proofs.Candidates.{unusable-default, unusable-held, usable-free, turn-short, turn-on, turn-taken, turn-end}
 use Rattle.candidates.proofs.generate_new_handle.Statement.{statement}

@@ -2,7 +2,7 @@
 use mathlib.Core.Path.{sym, ap, _∙_}
 use Rattle.children.specs.Marks.{slotCount}
 use Rattle.children.proofs.Marks.{seen}
-use Rattle.table.specs.Context.{withChildren}
+use Rattle.context.specs.Context.{withChildren}
 use Rattle.destroy_context.specs.Destroy.{clearedSlot}
 use borrow.Author.Needs.{needs}
 use Rattle.destroy_context.proofs.cleared_slot.Statement.{statement}

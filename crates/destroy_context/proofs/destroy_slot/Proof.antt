@@ -2,7 +2,7 @@
 use mathlib.Core.Path.{sym, ap, _∙_}
 use Rattle.error.specs.declared.Outcome.the-variants.{Done}
 use Rattle.table.specs.declared.state.State.{State}
-use Rattle.table.specs.Context.{slotOf}
+use Rattle.context.specs.Context.{slotOf}
 use Rattle.walks.specs.Walks.{whyOf}
 use Rattle.destroy_context.specs.Destroy.{refusedBy}
 use Rattle.destroy_context.proofs.Calls.{doomed-summary, slot-refused, slot-cleared}

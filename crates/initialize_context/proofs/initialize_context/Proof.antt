@@ -1,7 +1,7 @@
 -- `initialize_context::initialize_context` meets its contract. Assumes nothing.
 use mathlib.Core.Path.{sym, _∙_}
 use Rattle.children.specs.Marks.{slotCount}
-use Rattle.table.specs.Context.{slotOf}
+use Rattle.context.specs.Context.{slotOf}
 use Rattle.initialize_context.proofs.Initialize.{free-is, not-supported, both-bits, no-slot, default-slot, simulation-slot}
 use borrow.Author.Needs.{needs}
 use Rattle.initialize_context.proofs.initialize_context.Statement.{statement}

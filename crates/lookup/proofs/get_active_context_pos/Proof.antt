@@ -7,7 +7,7 @@ use Rattle.children.specs.Below.{some, lowestFrom, lowest}
 use Rattle.children.specs.Marks.{slotCount}
 use Rattle.children.proofs.Cases.{cases, and-both, and-left, and-right, or-right}
 use Rattle.children.proofs.Below.{low-here, low-on, low-end, some-next}
-use Rattle.table.specs.Context.{slotOf}
+use Rattle.context.specs.Context.{slotOf}
 use Rattle.lookup.specs.Lookup.{activeIn, isTarget}
 use Rattle.lookup.proofs.Lookup.{or-miss, found-at, found-other, found-nowhere}
 use Rattle.lookup.proofs.get_active_context_pos.Statement.{statement}

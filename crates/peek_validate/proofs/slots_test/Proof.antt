@@ -5,7 +5,7 @@ use native.Mathlib.Omega.{arith}
 use borrow.Author.Needs.{needs}
 use denote.Ref.{now}
 use Rattle.children.specs.Marks.{slotCount}
-use Rattle.table.specs.Context.{slotOf}
+use Rattle.context.specs.Context.{slotOf}
 use Rattle.image.specs.State.{decodeState}
 use Rattle.verdict.specs.declared.Verdict.the-variants.{Valid}
 use Rattle.verdict.specs.Tests.{headerOf, firstBelow}

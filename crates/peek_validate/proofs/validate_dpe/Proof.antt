@@ -2,7 +2,7 @@
 use mathlib.Core.Path.{sym, _∙_}
 use denote.Ref.{now}
 use borrow.Author.Needs.{needs}
-use Rattle.table.specs.Context.{slotOf}
+use Rattle.context.specs.Context.{slotOf}
 use Rattle.image.specs.State.{decodeState}
 use Rattle.verdict.specs.Tests.{headerOf}
 use Rattle.validation.proofs.Agree.{slots-by, places-by, forest-by, bad-marker, bad-version, bad-slot, bad-locality, to-forest}

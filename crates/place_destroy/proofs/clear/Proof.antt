@@ -6,7 +6,7 @@ use denote.Ref.{now}
 use Rattle.children.specs.Below.{listOf}
 use Rattle.children.specs.Marks.{slotCount}
 use Rattle.wire.specs.Le.{Bytes}
-use Rattle.table.specs.Context.{slotOf}
+use Rattle.context.specs.Context.{slotOf}
 use Rattle.table.specs.State.{withContexts}
 use Rattle.image.specs.State.{decodeState}
 use Rattle.image.proofs.Reading.{readable-size}

@@ -4,7 +4,7 @@ use Prim.Native.Nat.{ℕ}
 use denote.Ref.{now}
 use Rattle.children.specs.Marks.{slotCount, without}
 use Rattle.children.proofs.Marks.{seen}
-use Rattle.table.specs.Context.{slotOf, destroyed, withChildren}
+use Rattle.context.specs.Context.{slotOf, destroyed, withChildren}
 use Rattle.table.specs.State.{withSlot}
 use Rattle.image.specs.State.{decodeState}
 use Rattle.image.proofs.Reading.{readable-size}

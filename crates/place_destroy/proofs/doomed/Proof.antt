@@ -5,7 +5,7 @@ use denote.Ref.{now}
 use Rattle.error.specs.declared.DpeErrorCode.the-variants.{InvalidHandle}
 use Rattle.children.specs.declared.Answer.the-variants.{Marks}
 use Rattle.children.specs.Marks.{slotCount, joined}
-use Rattle.table.specs.Context.{slotOf}
+use Rattle.context.specs.Context.{slotOf}
 use Rattle.image.specs.State.{decodeState}
 use Rattle.forest.specs.Walk.{walkDown}
 use Rattle.links.specs.Summary.{liveAt, retiredAt, parentAt, kidsAt}

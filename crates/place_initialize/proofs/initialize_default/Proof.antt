@@ -4,8 +4,8 @@ use mathlib.Core.Bool.{true}
 use mathlib.Core.List.{List}
 use Prim.Native.Nat.{ℕ}
 use denote.Ref.{now}
-use Rattle.table.specs.declared.context.ContextType.the-variants.{Normal}
-use Rattle.table.specs.Context.{activeContext}
+use Rattle.context.specs.declared.ContextType.the-variants.{Normal}
+use Rattle.context.specs.Context.{activeContext}
 use Rattle.table.specs.State.{withSlot, withInitialized}
 use Rattle.image.specs.State.{decodeState}
 use Rattle.candidates.specs.Candidates.{takenOf}

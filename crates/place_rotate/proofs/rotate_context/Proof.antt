@@ -7,7 +7,7 @@ use denote.Ref.{now}
 use Rattle.children.specs.Marks.{slotCount, marked}
 use Rattle.table.specs.declared.state.NewHandle.{NewHandle}
 use Rattle.table.specs.Flags.{rotateBit}
-use Rattle.table.specs.Context.{slotOf, withHandle}
+use Rattle.context.specs.Context.{slotOf, withHandle}
 use Rattle.table.specs.State.{withSlot}
 use Rattle.image.specs.State.{decodeState, encodeState}
 use Rattle.image.proofs.Reading.{readable-size}

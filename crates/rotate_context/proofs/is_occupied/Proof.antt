@@ -5,7 +5,7 @@ use Prim.Native.Nat.{_≤_, _-_}
 use native.Mathlib.Omega.{arith}
 use borrow.Author.Needs.{needs}
 use Rattle.children.specs.Marks.{slotCount}
-use Rattle.table.specs.Context.{slotOf}
+use Rattle.context.specs.Context.{slotOf}
 use Rattle.rotate_context.specs.Rotate.{occupied}
 use Rattle.rotate_context.proofs.Rotate.{occupied-none, occupied-on, occupied-here}
 use Rattle.rotate_context.proofs.is_occupied.Statement.{statement}

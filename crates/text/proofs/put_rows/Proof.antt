@@ -6,7 +6,7 @@ use Prim.Native.Nat.{_+_, _*_, _-_, _≤_}
 use mathlib.Core.Path.{_≡_, refl, _∙_}
 use lib.ListN.{length}
 use Rattle.children.specs.Marks.{slotCount}
-use Rattle.table.specs.Context.{slotOf}
+use Rattle.context.specs.Context.{slotOf}
 use Rattle.image.specs.State.{decodeState}
 use Rattle.view.proofs.Fields.{state-fields}
 use Rattle.text_row.specs.Row.{PutAt, rowMost}

@@ -1,8 +1,7 @@
 -- `validation::validate_dpe` meets its contract. Assumes nothing.
 use mathlib.Core.Path.{sym, _∙_}
-use Prim.Native.Nat.{_-_}
 use borrow.Author.Needs.{needs}
-use Rattle.table.specs.Context.{slotOf}
+use Rattle.context.specs.Context.{slotOf}
 use Rattle.verdict.specs.Tests.{headerOf}
 use Rattle.validation.proofs.Agree.{slots-by, places-by, forest-by, bad-marker, bad-version, bad-slot, bad-locality, to-forest}
 use Rattle.validation.proofs.validate_dpe.Statement.{statement}

@@ -8,7 +8,7 @@ use lib.ListN.{length, take, length-set}
 use Rattle.children.specs.Below.{listOf}
 use Rattle.children.specs.Marks.{slotCount}
 use Rattle.children.proofs.Below.{listOf-fill}
-use Rattle.table.specs.Context.{slotOf}
+use Rattle.context.specs.Context.{slotOf}
 use Rattle.links.specs.Summary.{marksOf}
 use Rattle.links.proofs.Summary.{marks-more}
 use Rattle.verdict.specs.Tests.{localityAt, defaultAt, otherAt}

@@ -8,8 +8,8 @@ use borrow.Author.Needs.{needs}
 use lib.Dec.{eqb}
 use lib.ListN.{take, getD, replicate}
 use lib.Seq.{take-all}
-use Rattle.table.specs.Bytes.{tciSize, sameBytes}
-use Rattle.table.proofs.Bytes.{same-next}
+use Rattle.context.specs.Bytes.{tciSize, sameBytes}
+use Rattle.context.proofs.Bytes.{same-next}
 use Rattle.validation_slots.proofs.is_zero.Statement.{statement}
 use Rattle.validation_slots.proofs.is_zero.Tie as tie
 

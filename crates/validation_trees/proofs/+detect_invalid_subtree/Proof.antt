@@ -13,8 +13,8 @@ use Rattle.children.proofs.Marks.{has-is, seen, next-after}
 use Rattle.children.proofs.has_child.Reads as has-child-reads
 use Rattle.children.proofs.next.Reads as next-reads
 use Rattle.children.proofs.with.Reads as with-reads
-use Rattle.table.specs.Bytes.{byteOf}
-use Rattle.table.proofs.u8bool.new.Reads as new-reads
+use Rattle.context.specs.Bytes.{byteOf}
+use Rattle.context.proofs.u8bool.new.Reads as new-reads
 use Rattle.forest.specs.Search.{each, visit}
 use Rattle.validation_trees.specs.Summary.{kindIn, tableIn, told}
 use Rattle.validation_trees.proofs.Searches.{told-seen, is-cycles, is-mixed, is-seen, each-one, each-flaw, Turn, turn-on, visit-spent, visit-met, visit-idle, visit-mixed, visit-over, live-in, mark-in}

@@ -2,13 +2,12 @@
 use mathlib.Core.Bool.{Bool, _&&_}
 use mathlib.Core.List.{[]}
 use mathlib.Core.Path.{sym, ap, _∙_}
-use Prim.Native.Nat.{_-_}
 use borrow.Author.Needs.{needs}
 use denote.Ref.{now}
 use lib.Dec.{eqb}
 use Rattle.children.specs.Marks.{slotCount}
 use Rattle.children.proofs.Marks.{has-is}
-use Rattle.table.specs.Context.{noParent}
+use Rattle.context.specs.Context.{noParent}
 use Rattle.links.specs.Summary.{numberIn}
 use Rattle.validation_trees.proofs.Searches.{root-in}
 use Rattle.validation_trees.proofs.is_root.Statement.{statement}

@@ -1,12 +1,12 @@
 -- `validation_trees::root_step` meets its contract. Assumes nothing.
 use mathlib.Core.Path.{sym, ap, _∙_}
-use Prim.Native.Nat.{ℕ, _-_}
+use Prim.Native.Nat.{ℕ}
 use borrow.Author.Needs.{needs}
 use denote.Ref.{now}
 use Rattle.children.specs.Marks.{slotCount}
 use Rattle.children.proofs.Cases.{not-true, not-false}
 use Rattle.children.proofs.Marks.{has-is, seen}
-use Rattle.table.specs.Bytes.{byteOf}
+use Rattle.context.specs.Bytes.{byteOf}
 use Rattle.forest.specs.Search.{visit}
 use Rattle.validation_trees.specs.Summary.{kindIn, tableIn, told}
 use Rattle.validation_trees.proofs.Searches.{is-seen, no-parents, same-root, step-none, step-root}

@@ -1,6 +1,6 @@
 -- `walks_path::root_to_leaf` meets its contract. Assumes nothing.
 use mathlib.Core.Path.{_∙_}
-use Rattle.table.specs.Context.{slotOf}
+use Rattle.context.specs.Context.{slotOf}
 use Rattle.walks_path.proofs.Summary.{path-summary}
 use borrow.Author.Needs.{needs}
 use Rattle.walks_path.proofs.root_to_leaf.Statement.{statement}

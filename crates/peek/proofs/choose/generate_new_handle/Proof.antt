@@ -10,8 +10,8 @@ use Rattle.children.specs.Below.{some, lowestFrom, lowest}
 use Rattle.children.specs.Marks.{slotCount}
 use Rattle.children.proofs.Cases.{or-none}
 use Rattle.children.proofs.Below.{some-next, some-of}
-use Rattle.table.specs.Bytes.{handleSize, sameBytes}
-use Rattle.table.specs.Context.{slotOf}
+use Rattle.context.specs.Bytes.{handleSize, sameBytes}
+use Rattle.context.specs.Context.{slotOf}
 use Rattle.image.specs.State.{decodeState}
 use Rattle.candidates.specs.Candidates.{attempts, hasHandle, usableAt}
 use Rattle.candidates.proofs.Candidates.{unusable-default, unusable-held, usable-free, turn-short, turn-on, turn-taken, turn-end}

@@ -8,7 +8,7 @@ use Rattle.children.specs.Below.{count}
 use Rattle.children.specs.Marks.{slotCount}
 use Rattle.children.proofs.Cases.{cases}
 use Rattle.children.proofs.Below.{count-hit, count-miss, count-le}
-use Rattle.table.specs.Context.{slotOf}
+use Rattle.context.specs.Context.{slotOf}
 use Rattle.table.specs.State.{inState}
 use Rattle.image_context.specs.Context.{stateOf}
 use Rattle.image.specs.State.{decodeState}

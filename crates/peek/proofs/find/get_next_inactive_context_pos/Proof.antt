@@ -7,7 +7,7 @@ use denote.Ref.{now}
 use Rattle.children.specs.Below.{lowestFrom, lowest}
 use Rattle.children.specs.Marks.{slotCount}
 use Rattle.children.proofs.Below.{low-here, low-on, low-end}
-use Rattle.table.specs.Context.{slotOf, isInactive}
+use Rattle.context.specs.Context.{slotOf, isInactive}
 use Rattle.image.specs.State.{decodeState}
 use Rattle.table.specs.State.{idleAt}
 use Rattle.table.proofs.Slots.{free-at, free-none}

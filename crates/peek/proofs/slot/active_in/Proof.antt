@@ -4,8 +4,8 @@ use mathlib.Core.Path.{ap, ap₂, _∙_}
 use denote.Ref.{now}
 use lib.Dec.{eqb}
 use borrow.Author.Needs.{needs}
-use Rattle.table.specs.declared.context.ContextState.the-variants.{Active}
-use Rattle.table.specs.Context.{sameState}
+use Rattle.context.specs.declared.ContextState.the-variants.{Active}
+use Rattle.context.specs.Context.{sameState}
 use Rattle.view.specs.declared.SlotFields.{SlotFields}
 use Rattle.peek.proofs.Read.{fields-read}
 use Rattle.peek.proofs.slot.active_in.Statement.{statement}

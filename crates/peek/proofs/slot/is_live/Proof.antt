@@ -4,7 +4,7 @@ use mathlib.Core.Path.{ap, _∙_}
 use denote.Ref.{now}
 use Rattle.view.specs.declared.SlotFields.{SlotFields}
 use Rattle.peek.proofs.Read.{fields-read}
-use Rattle.table.specs.Context.{isLive}
+use Rattle.context.specs.Context.{isLive}
 use borrow.Author.Needs.{needs}
 use Rattle.peek.proofs.slot.is_live.Statement.{statement}
 use Rattle.peek.proofs.slot.is_live.Tie as tie

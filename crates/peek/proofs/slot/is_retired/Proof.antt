@@ -3,7 +3,7 @@ use mathlib.Core.Path.{ap, _∙_}
 use denote.Ref.{now}
 use Rattle.view.specs.declared.SlotFields.{SlotFields}
 use Rattle.peek.proofs.Read.{fields-read}
-use Rattle.table.specs.Context.{isRetired}
+use Rattle.context.specs.Context.{isRetired}
 use borrow.Author.Needs.{needs}
 use Rattle.peek.proofs.slot.is_retired.Statement.{statement}
 use Rattle.peek.proofs.slot.is_retired.Tie as tie

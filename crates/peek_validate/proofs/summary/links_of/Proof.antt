@@ -9,7 +9,7 @@ use lib.ListN.{length, take, length-set}
 use Rattle.children.specs.Below.{listOf}
 use Rattle.children.specs.Marks.{slotCount}
 use Rattle.children.proofs.Below.{listOf-fill}
-use Rattle.table.specs.Context.{slotOf, isLive, isRetired, isNormal}
+use Rattle.context.specs.Context.{slotOf, isLive, isRetired, isNormal}
 use Rattle.image.specs.State.{decodeState}
 use Rattle.links.specs.Summary.{liveAt, retiredAt, simulationAt, parentAt, kidsAt, marksOf}
 use Rattle.links.proofs.Summary.{marks-more, links-made}

@@ -9,8 +9,8 @@ use lib.ListN.{length, take, length-set}
 use Rattle.children.specs.Below.{listOf}
 use Rattle.children.specs.Marks.{slotCount}
 use Rattle.children.proofs.Below.{listOf-fill}
-use Rattle.table.specs.Bytes.{isDefault}
-use Rattle.table.specs.Context.{slotOf, isActive}
+use Rattle.context.specs.Bytes.{isDefault}
+use Rattle.context.specs.Context.{slotOf, isActive}
 use Rattle.image.specs.State.{decodeState}
 use Rattle.links.specs.Summary.{marksOf}
 use Rattle.links.proofs.Summary.{marks-more}

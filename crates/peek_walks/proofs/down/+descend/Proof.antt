@@ -12,7 +12,7 @@ use denote.Ref.{now}
 use Rattle.error.specs.declared.DpeErrorCode.the-variants.{InvalidHandle}
 use Rattle.children.specs.Marks.{slotCount, marked, nextBelow}
 use Rattle.children.proofs.Cases.{not-true, not-false}
-use Rattle.table.specs.Context.{slotOf}
+use Rattle.context.specs.Context.{slotOf}
 use Rattle.image.specs.State.{decodeState}
 use Rattle.forest.specs.Walk.{Answer, ok, both, walkDown}
 use Rattle.links.specs.Summary.{liveAt, kidsAt}

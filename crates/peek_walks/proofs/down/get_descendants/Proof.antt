@@ -6,8 +6,8 @@ use borrow.Author.Tests.{lt-ltb, le-ltb}
 use denote.Ref.{now}
 use Rattle.error.specs.declared.DpeErrorCode.the-variants.{InvalidHandle}
 use Rattle.children.specs.Marks.{slotCount}
-use Rattle.table.specs.declared.context.Context.{Context}
-use Rattle.table.specs.Context.{slotOf}
+use Rattle.context.specs.declared.Context.{Context}
+use Rattle.context.specs.Context.{slotOf}
 use Rattle.image.specs.State.{decodeState}
 use Rattle.forest.specs.Walk.{walkDown}
 use Rattle.links.specs.Summary.{liveAt, kidsAt}

@@ -9,7 +9,7 @@ use lib.ListN.{length, length-set, take}
 use Rattle.children.specs.Below.{listOf}
 use Rattle.children.specs.Marks.{slotCount}
 use Rattle.children.proofs.Below.{listOf-fill}
-use Rattle.table.specs.Context.{slotOf}
+use Rattle.context.specs.Context.{slotOf}
 use Rattle.image.specs.State.{decodeState}
 use Rattle.links.specs.Summary.{liveAt, parentAt, stepsUp}
 use Rattle.walks_path.specs.Path.{lengthFrom}

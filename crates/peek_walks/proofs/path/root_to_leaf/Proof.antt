@@ -3,7 +3,7 @@ use mathlib.Core.Path.{sym, ap, _∙_}
 use denote.Ref.{now}
 use borrow.Author.Needs.{needs}
 use Rattle.children.specs.Marks.{slotCount}
-use Rattle.table.specs.Context.{slotOf}
+use Rattle.context.specs.Context.{slotOf}
 use Rattle.image.specs.State.{decodeState}
 use Rattle.links.specs.Summary.{liveAt}
 use Rattle.walks_path.specs.Path.{slotsOf, pathOf, pathIn}

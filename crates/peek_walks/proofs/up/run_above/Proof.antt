@@ -7,7 +7,7 @@ use borrow.Author.Needs.{needs}
 use denote.Ref.{now}
 use Rattle.children.specs.Marks.{slotCount, with, countBelow}
 use Rattle.children.proofs.Cases.{not-true, not-false}
-use Rattle.table.specs.Context.{slotOf}
+use Rattle.context.specs.Context.{slotOf}
 use Rattle.image.specs.State.{decodeState}
 use Rattle.forest.specs.Walk.{Answer}
 use Rattle.forest.specs.Run.{singleIn, climb}

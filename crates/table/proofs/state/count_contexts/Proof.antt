@@ -7,7 +7,7 @@ use Rattle.children.specs.Below.{count}
 use Rattle.children.specs.Marks.{slotCount}
 use Rattle.children.proofs.Cases.{cases}
 use Rattle.children.proofs.Below.{count-hit, count-miss, count-le}
-use Rattle.table.specs.Context.{slotOf}
+use Rattle.context.specs.Context.{slotOf}
 use Rattle.table.specs.State.{inState}
 use Rattle.table.proofs.state.count_contexts.Statement.{statement}
 use Rattle.table.proofs.state.count_contexts.Tie as tie

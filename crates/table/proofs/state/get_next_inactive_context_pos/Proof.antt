@@ -6,7 +6,7 @@ use borrow.Author.Needs.{needs}
 use Rattle.children.specs.Below.{lowestFrom, lowest}
 use Rattle.children.specs.Marks.{slotCount}
 use Rattle.children.proofs.Below.{low-here, low-on, low-end}
-use Rattle.table.specs.Context.{slotOf}
+use Rattle.context.specs.Context.{slotOf}
 use Rattle.table.specs.State.{idleAt}
 use Rattle.table.proofs.Slots.{free-at, free-none}
 use Rattle.table.proofs.state.get_next_inactive_context_pos.Statement.{statement}

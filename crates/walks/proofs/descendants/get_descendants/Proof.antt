@@ -5,7 +5,7 @@ use native.Mathlib.Omega.{arith}
 use borrow.Author.Tests.{le-ltb}
 use Rattle.error.specs.declared.DpeErrorCode.the-variants.{InvalidHandle}
 use Rattle.children.specs.Marks.{slotCount, marked}
-use Rattle.table.specs.Context.{slotOf}
+use Rattle.context.specs.Context.{slotOf}
 use Rattle.forest.specs.Walk.{walkDown}
 use Rattle.links.specs.Summary.{numberIn}
 use Rattle.walks.specs.Walks.{toldOf, descendantsIn}

@@ -1,7 +1,7 @@
--- `table::context::Context::activate` meets its contract. Assumes nothing.
+-- `context::Context::activate` meets its contract. Assumes nothing.
 use borrow.Author.Needs.{needs}
-use Rattle.table.proofs.context.Context.activate.Statement.{statement}
-use Rattle.table.proofs.context.Context.activate.Tie as tie
+use Rattle.context.proofs.Context.activate.Statement.{statement}
+use Rattle.context.proofs.Context.activate.Tie as tie
 
 new-requires : tie.Need-new-requires
 new-requires c κs = search needs

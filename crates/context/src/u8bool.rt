@@ -1,6 +1,6 @@
 // A boolean kept in a byte: true when it is not 0, and set to 0 or 1. `U8Bool` of lib.rs.
 ghost use mathlib.Core.Path.{_≡_};
-ghost use Rattle.table.specs.Bytes.{isOn, byteOf};
+ghost use Rattle.context.specs.Bytes.{isOn, byteOf};
 
 pub fn get(b: u8) -> bool
     ensures { λ r. ⌜ r ≡ isOn b ⌝ }

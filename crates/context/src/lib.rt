@@ -1,13 +1,15 @@
-// One context of the table. context.rs.
-use crate::handle;
+// One context of the table: its types, and what is done to it. context.rs; the modules are its handle, its measurements (tci.rs) and boolean bytes.
+pub mod handle;
+pub mod tci;
+pub mod u8bool;
+
 use crate::tci::TciNodeData;
-use crate::u8bool;
 use children::Answer;
 use error::DpeErrorCode;
 use error::InternalErrorCode;
 ghost use mathlib.Core.Path.{_≡_};
 ghost use Rattle.children.specs.Marks.{slotCount};
-ghost use Rattle.table.specs.Context.{newContext, activeContext, destroyed, withChildOf, isInactive, isActive, isRetired, sameState, isNormal};
+ghost use Rattle.context.specs.Context.{newContext, activeContext, destroyed, withChildOf, isInactive, isActive, isRetired, sameState, isNormal};
 
 // The parent of a context that has none.
 pub const ROOT_INDEX: u8 = 0xff;

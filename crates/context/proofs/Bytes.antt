@@ -2,15 +2,14 @@
 use mathlib.Core.Bool.{Bool, true, false, _&&_}
 use mathlib.Core.List.{List, [], _∷_}
 use mathlib.Core.Logic.{_↔_}
-use mathlib.Core.Path.{_≡_, refl, sym, ap, ap₂, _∙_}
+use mathlib.Core.Path.{_≡_, refl, ap, ap₂, _∙_}
 use Prim.Native.Nat.{ℕ, zero, suc, _+_, _<_}
 use native.Mathlib.Nat.{le-of-suc-le-suc, not-suc-le-zero}
 use native.Mathlib.Numerals.{add-one}
-use native.Mathlib.Omega.{arith}
 use lib.Dec.{eqb}
 use lib.ListN.{length, take, getD}
 use Rattle.children.proofs.Cases.{clash, and-true, eqb-true, true-eqb}
-use Rattle.table.specs.Bytes.{sameBytes}
+use Rattle.context.specs.Bytes.{sameBytes}
 
 and-on : (b : Bool) → (b && true) ≡ b
 and-on true = refl

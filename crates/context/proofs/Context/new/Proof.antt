@@ -1,7 +1,7 @@
--- `table::context::Context::new` meets its contract. Assumes nothing.
+-- `context::Context::new` meets its contract. Assumes nothing.
 use borrow.Author.Needs.{needs}
-use Rattle.table.proofs.context.Context.new.Statement.{statement}
-use Rattle.table.proofs.context.Context.new.Tie as tie
+use Rattle.context.proofs.Context.new.Statement.{statement}
+use Rattle.context.proofs.Context.new.Tie as tie
 
 default-requires : tie.Need-default-requires
 default-requires c κs = search needs

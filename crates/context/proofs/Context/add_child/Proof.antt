@@ -1,10 +1,10 @@
--- `table::context::Context::add_child` meets its contract. Assumes nothing.
+-- `context::Context::add_child` meets its contract. Assumes nothing.
 use mathlib.Core.Path.{_∙_}
 use borrow.Author.Tests.{lt-ltb, le-ltb}
-use Rattle.table.specs.Context.{withChildOf}
+use Rattle.context.specs.Context.{withChildOf}
 use borrow.Author.Needs.{needs}
-use Rattle.table.proofs.context.Context.add_child.Statement.{statement}
-use Rattle.table.proofs.context.Context.add_child.Tie as tie
+use Rattle.context.proofs.Context.add_child.Statement.{statement}
+use Rattle.context.proofs.Context.add_child.Tie as tie
 
 returns : tie.Need-returns
 unfolding withChildOf

@@ -1,9 +1,9 @@
--- `table::handle::is_default` meets its contract. Assumes nothing.
+-- `context::handle::is_default` meets its contract. Assumes nothing.
 use mathlib.Core.Path.{ap, _∙_}
-use Rattle.table.specs.Bytes.{sameBytes}
+use Rattle.context.specs.Bytes.{sameBytes}
 use borrow.Author.Needs.{needs}
-use Rattle.table.proofs.handle.is_default.Statement.{statement}
-use Rattle.table.proofs.handle.is_default.Tie as tie
+use Rattle.context.proofs.handle.is_default.Statement.{statement}
+use Rattle.context.proofs.handle.is_default.Tie as tie
 
 default-requires : tie.Need-default-requires
 default-requires c κs = search needs

@@ -1,6 +1,6 @@
 // The measurements of a context. tci.rs.
 ghost use mathlib.Core.Path.{_≡_};
-ghost use Rattle.table.specs.Context.{zeroTci};
+ghost use Rattle.context.specs.Context.{zeroTci};
 
 pub const TCI_SIZE: usize = 48;
 

@@ -9,14 +9,14 @@ use Rattle.error.specs.declared.InternalErrorCode.the-variants.{ChildIndexOob}
 use Rattle.children.specs.declared.Answer.{Answer}
 use Rattle.children.specs.declared.Answer.the-variants.{Refused}
 use Rattle.children.specs.Marks.{addChildOf}
-use Rattle.table.specs.declared.tci.TciNodeData.{TciNodeData}
-use Rattle.table.specs.declared.context.ContextState.{ContextState}
-use Rattle.table.specs.declared.context.ContextState.the-variants.{Inactive, Active, Retired}
-use Rattle.table.specs.declared.context.ContextType.{ContextType}
-use Rattle.table.specs.declared.context.ContextType.the-variants.{Normal, Simulation}
-use Rattle.table.specs.declared.context.Context.{Context}
-use Rattle.table.specs.declared.context.ActiveContextArgs.{ActiveContextArgs}
-use Rattle.table.specs.Bytes.{tciSize, byteOf, defaultHandle, invalidHandle}
+use Rattle.context.specs.declared.tci.TciNodeData.{TciNodeData}
+use Rattle.context.specs.declared.ContextState.{ContextState}
+use Rattle.context.specs.declared.ContextState.the-variants.{Inactive, Active, Retired}
+use Rattle.context.specs.declared.ContextType.{ContextType}
+use Rattle.context.specs.declared.ContextType.the-variants.{Normal, Simulation}
+use Rattle.context.specs.declared.Context.{Context}
+use Rattle.context.specs.declared.ActiveContextArgs.{ActiveContextArgs}
+use Rattle.context.specs.Bytes.{tciSize, byteOf, defaultHandle, invalidHandle}
 
 -- the parent of a context that has none
 abbrev pub noParent : ℕ

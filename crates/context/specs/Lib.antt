@@ -1,0 +1,3 @@
+-- What the contracts of context, and of the crates above it, cite.
+pub mod Bytes
+pub mod Context
