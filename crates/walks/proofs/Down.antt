@@ -1,14 +1,12 @@
 -- How the walk down goes on, from mark to mark, and what is told of it. Assumes nothing.
 use mathlib.Core.Bool.{Bool, true, false, cond}
-use mathlib.Core.Logic.{_⊎_, inl, inr}
+use mathlib.Core.Logic.{inl, inr}
 use mathlib.Core.Path.{_≡_, refl, sym, ap, _∙_}
 use Prim.Native.Nat.{ℕ, zero, suc, _+_, _-_, _≤_, _<_}
 use native.Mathlib.Decide.{ℕ-discrete, le-ind}
 use native.Mathlib.Numerals.{add-one}
 use native.Mathlib.Omega.{arith}
 use Rattle.error.specs.declared.DpeErrorCode.{DpeErrorCode}
-use Rattle.error.specs.declared.DpeErrorCode.the-variants.{Added}
-use Rattle.error.specs.declared.AddedErrorCode.the-variants.{WalkLoops}
 use Rattle.children.specs.declared.Answer.the-variants.{Marks, Refused}
 use Rattle.children.specs.Below.{lowestFrom}
 use Rattle.children.specs.Marks.{marked, with, joined, nextBelow}
