@@ -1,7 +1,6 @@
 -- Laws of reading a whole image. Assumes nothing.
 use mathlib.Core.Path.{_≡_, refl, sym, ap, _∙_}
 use mathlib.Core.List.{List}
-use mathlib.Core.Logic.{inl, inr}
 use Prim.Native.Nat.{ℕ, zero, suc, _+_, _≤_, _<_}
 use native.Mathlib.Decide.{ℕ-discrete}
 use native.Mathlib.Numerals.{add-one}
@@ -15,7 +14,7 @@ use Rattle.error.specs.declared.DpeErrorCode.{DpeErrorCode}
 use Rattle.error.specs.declared.DpeErrorCode.the-variants.{Added}
 use Rattle.error.specs.declared.AddedErrorCode.the-variants.{BadLength}
 use mathlib.Core.Bool.{true, false}
-use Rattle.children.proofs.Cases.{two, clash, and-true, and-both, eqb-true}
+use Rattle.children.proofs.Cases.{clash, and-true, and-both, eqb-true}
 use Rattle.children.specs.Below.{every, listOf}
 use Rattle.children.specs.Marks.{slotCount}
 use Rattle.children.proofs.Below.{every-at, at-every, listOf-at}
@@ -82,10 +81,6 @@ module _ (l : List ℕ) where
   pub read-slots : length l ≡ stateSize → slotsAnswer slotCount l ≡ readableOf l
   unfolding readableOf
   read-slots h = rw (eq-eqb _ _ h)
-
-  -- one slot that is not good is enough
-  pub not-every : (i : ℕ) → i < slotCount → goodSlot l i ≡ false → false ≡ every (goodSlot l) slotCount
-  not-every i h f = elim (two (every (goodSlot l) slotCount)) [ inl e ↦ clash (every-at (goodSlot l) slotCount e i h) f | inr e ↦ sym e ]
 
   -- an image reads where it is as long as one and every slot is good
   pub readable-size : readableOf l ≡ Done → length l ≡ stateSize

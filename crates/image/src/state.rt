@@ -35,7 +35,7 @@ pub struct StateRead {
     pub state: State,
 }
 
-// Whether every slot is good: their words are joined, slot after slot, as long as they are good together.
+// Whether every slot is good: their words are joined in one pass with no branch, and looked at together.
 fn are_good(image: &[u8]) -> bool
     requires { ⌜ length (now image) ≡ stateSize ⌝ }
     ensures { λ r. ⌜ r ≡ every (goodSlot (now (image .entry))) slotCount ⌝ }
@@ -43,11 +43,8 @@ fn are_good(image: &[u8]) -> bool
     let mut kinds: u32 = 0;
     for i in 0..MAX_HANDLES {
         kinds = kinds | image_context::kind_at(image, CONTEXTS_AT + image_context::SIZE * i);
-        if !image_context::are_good_kinds(kinds) {
-            return false;
-        }
     }
-    true
+    image_context::are_good_kinds(kinds)
 }
 
 // Whether the image reads. `readable` says why one does not.
