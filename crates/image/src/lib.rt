@@ -1,2 +1,2 @@
-// The state image, by the offsets of document 01: read whole, written whole, or only tested. Added; the Rust has none.
+// The state image, by the offsets of document 01, and the reading test. Added; the Rust has none.
 pub mod state;

@@ -157,7 +157,7 @@ fn run(h: &[u8], before: &[u8], after: &[u8], candidates: &[u8]) -> bool
     requires { ⌜ 104 ≤ length (now h) ⌝ }
 {
     let mut image = [0u8; state::SIZE];
-    state::write_state(State::new(0, 0), &mut image);
+    image_table::write_state(State::new(0, 0), &mut image);
     change(&mut image, before);
     let mut expected = image;
     change(&mut expected, after);

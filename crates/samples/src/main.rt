@@ -161,14 +161,14 @@ fn chain() -> State {
 // Writes the image of a table.
 fn put(t: State) {
     let mut image = [0u8; image::state::SIZE];
-    image::state::write_state(t, &mut image);
+    image_table::write_state(t, &mut image);
     io::write_all(STDOUT_FILENO, &image);
 }
 
 // Writes the image of a table with a state byte that says no state.
 fn put_bad_state(t: State) {
     let mut image = [0u8; image::state::SIZE];
-    image::state::write_state(t, &mut image);
+    image_table::write_state(t, &mut image);
     let at = image::state::CONTEXTS_AT + image_context::SIZE * BAD_SLOT;
     image[at + image_context::STATE_AT] = BAD_STATE;
     io::write_all(STDOUT_FILENO, &image);

@@ -89,8 +89,8 @@ use Rattle.image_context.proofs.state_byte.Reads as image-context-state-byte-re
 use Rattle.image_context.proofs.type_byte.Reads as image-context-type-byte-reads
 use Rattle.image.proofs.state.readable.Reads as image-state-readable-reads
 use Rattle.image.proofs.state.is_readable.Reads as image-state-is-readable-reads
-use Rattle.image.proofs.state.read_state.Reads as image-state-read-state-reads
-use Rattle.image.proofs.state.write_state.Reads as image-state-write-state-reads
+use Rattle.image_table.proofs.read_state.Reads as image-table-read-state-reads
+use Rattle.image_table.proofs.write_state.Reads as image-table-write-state-reads
 use Rattle.validation.proofs.validate_dpe.Reads as validation-validate-dpe-reads
 use Rattle.validation.proofs.outcome.Reads as validation-outcome-reads
 use Rattle.validation_localities.proofs.places_of.Reads as validation-localities-places-of-reads
@@ -400,11 +400,11 @@ image-state-readable κ a r r′ s s′ = one
 pub image-state-is-readable : OneResult image-state-is-readable-reads.Post
 image-state-is-readable κ a r r′ s s′ = one
 
-pub image-state-read-state : OneResult image-state-read-state-reads.Post
-image-state-read-state κ a r r′ s s′ = one
+pub image-table-read-state : OneResult image-table-read-state-reads.Post
+image-table-read-state κ a r r′ s s′ = one
 
-pub image-state-write-state : (κ : _) (a : _) (r r′ : _) (s s′ : _) → image-state-write-state-reads.Post κ a r s → image-state-write-state-reads.Post κ a r′ s′ → (r ≡ r′) × (now (s .1 .0) ≡ now (s′ .1 .0))
-image-state-write-state κ a r r′ s s′ p q = (one (p .0) (q .0), one (p .1) (q .1))
+pub image-table-write-state : (κ : _) (a : _) (r r′ : _) (s s′ : _) → image-table-write-state-reads.Post κ a r s → image-table-write-state-reads.Post κ a r′ s′ → (r ≡ r′) × (now (s .1 .0) ≡ now (s′ .1 .0))
+image-table-write-state κ a r r′ s s′ p q = (one (p .0) (q .0), one (p .1) (q .1))
 
 pub validation-validate-dpe : OneResult validation-validate-dpe-reads.Post
 validation-validate-dpe κ a r r′ s s′ = one

@@ -1,10 +1,10 @@
--- `image::state::read_state` meets its contract. Assumes nothing.
+-- `image_table::read_state` meets its contract. Assumes nothing.
 use mathlib.Core.Path.{sym, _∙_}
 use denote.Ref.{now}
 use Rattle.image.proofs.Reading.{readable-size, done-made, refused-made}
 use borrow.Author.Needs.{needs}
-use Rattle.image.proofs.state.read_state.Statement.{statement}
-use Rattle.image.proofs.state.read_state.Tie as tie
+use Rattle.image_table.proofs.read_state.Statement.{statement}
+use Rattle.image_table.proofs.read_state.Tie as tie
 
 readable-requires : tie.Need-readable-requires
 readable-requires c κs = search needs

@@ -1,4 +1,4 @@
--- `image::state::write_contexts` meets its contract. Assumes nothing.
+-- `image_table::write_contexts` meets its contract. Assumes nothing.
 use borrow.Author.Needs.{needs}
 use native.Mathlib.Omega.{arith}
 use Prim.Native.Nat.{_≤_, _-_, _+_, _*_}
@@ -7,11 +7,11 @@ use denote.Ref.{now}
 use Rattle.children.specs.Marks.{slotCount}
 use lib.ListN.{length, take}
 use Rattle.wire.specs.Le.{put}
 use Rattle.image.specs.State.{contextsAt, stateSize, encodeSlots}
 use Rattle.image.proofs.Owned.{owned-fits}
 use Rattle.image.proofs.Writing.{slots-none, slot-put, length-slots-put, slots-put}
-use Rattle.image.proofs.state.write_contexts.Statement.{statement}
-use Rattle.image.proofs.state.write_contexts.Tie as tie
+use Rattle.image_table.proofs.write_contexts.Statement.{statement}
+use Rattle.image_table.proofs.write_contexts.Tie as tie
 
 abbrev Inv-loop : tie.InvT-loop
 Inv-loop out₀ state i₀ out i = (i ≤ slotCount) × (length out ≡ stateSize) × (out ≡ put contextsAt (encodeSlots (take i (state .contexts))) out₀)

@@ -1,6 +1,6 @@
--- `image::state::read_contexts` meets its contract. Assumes nothing.
+-- `image_table::read_contexts` meets its contract. Assumes nothing.
 use Rattle.wire.specs.Le.{part}
 use Rattle.image.proofs.Reading.{slots-made}
 use borrow.Author.Needs.{needs}
 use native.Mathlib.Omega.{arith}
 use Prim.Native.Nat.{ℕ, _≤_, _-_, _+_, _*_}
@@ -11,9 +11,9 @@ use lib.ListN.{length, take, length-set}
 use Rattle.children.specs.Below.{listOf}
 use Rattle.children.proofs.Below.{listOf-fill}
 use Rattle.image_context.specs.Context.{decodeContext}
 use Rattle.image.specs.State.{slotIn}
-use Rattle.image.proofs.state.read_contexts.Statement.{statement}
-use Rattle.image.proofs.state.read_contexts.Tie as tie
+use Rattle.image_table.proofs.read_contexts.Statement.{statement}
+use Rattle.image_table.proofs.read_contexts.Tie as tie
 
 abbrev Inv-loop : tie.InvT-loop
 Inv-loop image contexts₀ i₀ contexts i = (i ≤ slotCount) × (length contexts ≡ slotCount) × (take i contexts ≡ listOf (slotIn image) i)

@@ -1,14 +1,14 @@
--- `image::state::write_state` meets its contract. Assumes nothing.
+-- `image_table::write_state` meets its contract. Assumes nothing.
 use native.Mathlib.Omega.{arith}
 use mathlib.Core.Path.{_≡_, _∙_}
 use lib.ListN.{length, length-set}
 use denote.Ref.{now}
 use Rattle.image.specs.State.{stateSize}
 use Rattle.image.proofs.Owned.{owned-fits}
 use Rattle.image.proofs.Writing.{state-put, write-short, write-whole}
 use borrow.Author.Needs.{needs}
-use Rattle.image.proofs.state.write_state.Statement.{statement}
-use Rattle.image.proofs.state.write_state.Tie as tie
+use Rattle.image_table.proofs.write_state.Statement.{statement}
+use Rattle.image_table.proofs.write_state.Tie as tie
 
 returns : tie.Need-returns
 returns c = write-short (c .before .before .args .state) (now (c .before .before .args .out)) (λ e. omega arith)

@@ -1,8 +1,8 @@
--- `image::state::blank` meets its contract. Assumes nothing.
+-- `image_table::blank` meets its contract. Assumes nothing.
 use Rattle.image.proofs.Reading.{blank-made}
 use borrow.Author.Needs.{needs}
-use Rattle.image.proofs.state.blank.Statement.{statement}
-use Rattle.image.proofs.state.blank.Tie as tie
+use Rattle.image_table.proofs.blank.Statement.{statement}
+use Rattle.image_table.proofs.blank.Tie as tie
 
 blank-requires : tie.Need-blank-requires
 blank-requires c κs = search needs

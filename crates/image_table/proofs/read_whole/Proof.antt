@@ -1,9 +1,9 @@
--- `image::state::read_whole` meets its contract. Assumes nothing.
+-- `image_table::read_whole` meets its contract. Assumes nothing.
 use denote.Ref.{now}
 use Rattle.image.proofs.Reading.{state-made}
 use borrow.Author.Needs.{needs}
-use Rattle.image.proofs.state.read_whole.Statement.{statement}
-use Rattle.image.proofs.state.read_whole.Tie as tie
+use Rattle.image_table.proofs.read_whole.Statement.{statement}
+use Rattle.image_table.proofs.read_whole.Tie as tie
 
 read-u32-requires : tie.Need-read-u32-requires
 read-u32-requires c κs = search needs
