@@ -116,13 +116,6 @@ refused-on e r f (ok w) b q = absurd (let z : _≡_ {A = ℕ} 0 1 = cc in omega 
 
 -- ---- at a slot
 
--- a child that is on the path, and one that is not
-pub on-path : (n d : ℕ) (live : ℕ → Bool) (kids : ℕ → ℕ) (down k : ℕ) → marked down k ≡ true → child n live kids d down k ≡ loops
-on-path n d live kids down k e = rw e
-
-pub off-path : (n d : ℕ) (live : ℕ → Bool) (kids : ℕ → ℕ) (down k : ℕ) → marked down k ≡ false → child n live kids d down k ≡ walkDown n live kids d down k
-off-path n d live kids down k e = rw e
-
 -- the walk at a slot that is live: its marks, and the rest from its first child on
 pub rest-begins : (n d : ℕ) (live : ℕ → Bool) (kids : ℕ → ℕ) (path slot down m f g r : ℕ) → down ≡ with path slot → (d ≡ 0 → ⊥) → live slot ≡ true → m ≡ kids slot
     → g ≡ joined f m → r ≡ nextBelow n m 0

@@ -82,6 +82,13 @@ module _ (rec : ℕ → Answer) (m : ℕ) where
 abbrev pub child : ℕ → (ℕ → Bool) → (ℕ → ℕ) → ℕ → ℕ → ℕ → Answer
 child n live kids depth down c = cond (marked down c) loops (walkDown n live kids depth down c)
 
+-- a child that is on the path, and one that is not
+pub on-path : (n d : ℕ) (live : ℕ → Bool) (kids : ℕ → ℕ) (down k : ℕ) → marked down k ≡ true → child n live kids d down k ≡ loops
+on-path n d live kids down k e = rw e
+
+pub off-path : (n d : ℕ) (live : ℕ → Bool) (kids : ℕ → ℕ) (down k : ℕ) → marked down k ≡ false → child n live kids d down k ≡ walkDown n live kids d down k
+off-path n d live kids down k e = rw e
+
 module _ (n d : ℕ) (live : ℕ → Bool) (kids : ℕ → ℕ) (path slot : ℕ) where
   pub walk-spent : d ≡ 0 → walkDown n live kids d path slot ≡ loops
   unfolding walkDown

@@ -17,8 +17,8 @@ use Rattle.image.specs.State.{decodeState}
 use Rattle.forest.specs.Walk.{Answer, ok, both, walkDown}
 use Rattle.links.specs.Summary.{liveAt, kidsAt}
 use Rattle.walks.specs.Walks.{toldOf}
-use Rattle.walks.proofs.Down.{child, told-marks, walk-spent, walk-inactive}
-use Rattle.peek_walks.proofs.Rest.{begins, rest, next-marked, rest-on, rest-none, rest-last, refused-on, on-path, off-path, rest-begins}
+use Rattle.walks.proofs.Down.{child, on-path, off-path, told-marks, walk-spent, walk-inactive}
+use Rattle.peek_walks.proofs.Rest.{begins, rest, next-marked, rest-on, rest-none, rest-last, refused-on, rest-begins}
 use Rattle.peek_walks.proofs.down.descend.Reads as descend
 use Rattle.peek_walks.proofs.down.descend.Kinds as descend-kinds
 use Rattle.peek_walks.proofs.down.+descend.Lts-descend as descend-lts

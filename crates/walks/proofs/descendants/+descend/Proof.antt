@@ -1,6 +1,5 @@
 -- `walks::descendants::descend` meets its contract. The loop's invariant: the children below k are done, and k is a child or the end. The measure
 -- of the calls is the depth. Assumes nothing.
-use mathlib.Core.Bool.{Bool, true, false, not}
 use mathlib.Core.Path.{_≡_, refl, sym, ap, _∙_}
 use Prim.Native.Nat.{ℕ, _<_, _-_, _+_}
 use native.Mathlib.Omega.{arith}
@@ -11,10 +10,10 @@ use denote.Ref.{now}
 use Rattle.error.specs.declared.DpeErrorCode.the-variants.{InvalidHandle}
 use Rattle.children.specs.Marks.{slotCount, marked}
 use Rattle.children.proofs.Cases.{not-true, not-false}
-use Rattle.forest.specs.Walk.{loops, ok, over, walkDown}
+use Rattle.forest.specs.Walk.{ok, over, walkDown}
 use Rattle.links.specs.Summary.{numberIn}
 use Rattle.walks.specs.Walks.{toldOf}
-use Rattle.walks.proofs.Down.{child, Turn, turn-on, told-marks, over-joined, over-loops, over-refused, walk-spent, walk-inactive, walk-over}
+use Rattle.walks.proofs.Down.{child, on-path, off-path, Turn, turn-on, told-marks, over-joined, over-loops, over-refused, walk-spent, walk-inactive, walk-over}
 use Rattle.walks.proofs.descendants.descend.Reads as descend
 use Rattle.walks.proofs.descendants.descend.Kinds as descend-kinds
 use Rattle.walks.proofs.descendants.+descend.Lts-descend as descend-lts
@@ -44,13 +43,6 @@ descend-Inv-loop children live path slot depth down kids found₀ k₀ found k =
 
 abbrev descend-μ-loop : descend-lts.MeasureT-loop
 descend-μ-loop children live path slot depth down kids found₀ k₀ found k = slotCount - k
-
--- a child that is on the path, and one that is not
-on-path : (n d : ℕ) (live : ℕ → Bool) (kids : ℕ → ℕ) (down k : ℕ) → marked down k ≡ true → child n live kids d down k ≡ loops
-on-path n d live kids down k e = rw e
-
-off-path : (n d : ℕ) (live : ℕ → Bool) (kids : ℕ → ℕ) (down k : ℕ) → marked down k ≡ false → child n live kids d down k ≡ walkDown n live kids d down k
-off-path n d live kids down k e = rw e
 
 -- past the tests, the walk is the one over the children
 past : (t : ℕ) (c : descend-lts.After-with (calls t) (descend-at t) descend.Post descend-Inv-loop descend-μ-loop)
