@@ -13,7 +13,7 @@ use Rattle.table.specs.declared.state.Found.{Found}
 use Rattle.table.specs.declared.state.Found.the-variants as found
 use Rattle.table.specs.declared.state.NewHandle.{NewHandle}
 use Rattle.destroy_context.specs.declared.Destroyed.{Destroyed}
-use Rattle.image_context.specs.Context.{first}
+use Rattle.image_kinds.specs.Kinds.{first}
 use Rattle.duottarok.specs.Exports.{foundWord, foundPlace, marksWord, marksPlace, foundAfter, marksAfter, handleAfter, destroyAfter, handlePlace}
 
 -- ---- what a call says after reading: the reading's refusal, or its own answer

@@ -17,7 +17,8 @@ use Rattle.table.specs.declared.state.Found.the-variants as found
 use Rattle.table.specs.declared.state.NewHandle.{NewHandle}
 use Rattle.context.specs.Context.{slotOf}
 use Rattle.table.specs.State.{countIn, refusedOf}
-use Rattle.image_context.specs.Context.{stateOf, first}
+use Rattle.image_kinds.specs.Kinds.{first}
+use Rattle.image_context.specs.Context.{stateOf}
 use Rattle.image.specs.State.{decodeState, readableOf}
 use Rattle.verdict.specs.Tests.{verdictOf, outcomeOf}
 use Rattle.lookup.specs.Lookup.{lookupIn}

@@ -24,7 +24,8 @@ use Rattle.context.specs.declared.tci.TciNodeData.{TciNodeData}
 use Rattle.context.specs.declared.Context.{Context}
 use Rattle.table.specs.declared.state.State.{State}
 use Rattle.image_context.specs.Fits.{Run, FitsTci, FitsContext}
-use Rattle.image_context.specs.Context.{contextSize, decodeTci, decodeContext, contextAnswer, encodeTci, encodeLast, encodeContext}
+use Rattle.image_kinds.specs.Kinds.{contextSize, contextAnswer}
+use Rattle.image_context.specs.Context.{decodeTci, decodeContext, encodeTci, encodeLast, encodeContext}
 use Rattle.image_context.proofs.Fields.{byte-type, byte-state}
 use Rattle.image_context.proofs.Writing.{length-context}
 use Rattle.image.specs.State.{contextsAt, supportAt, stateSize, slotBytes, slotIn, decodeState, readableOf, encodeState}

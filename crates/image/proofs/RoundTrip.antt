@@ -21,8 +21,10 @@ use Rattle.context.specs.declared.tci.TciNodeData.{TciNodeData}
 use Rattle.context.specs.declared.Context.{Context}
 use Rattle.table.specs.declared.state.State.{State}
 use Rattle.image_context.specs.Fits.{FitsTci, FitsContext}
-use Rattle.image_context.specs.Context.{contextSize, typeByteIn, stateByteIn, decodeTci, decodeContext, contextAnswer, encodeTci, encodeLast, encodeContext}
-use Rattle.image_context.proofs.Fields.{type-byte, state-byte, byte-type, byte-state, done-bytes, bytes-done}
+use Rattle.image_kinds.specs.Kinds.{contextSize, typeByteIn, stateByteIn, contextAnswer}
+use Rattle.image_context.specs.Context.{decodeTci, decodeContext, encodeTci, encodeLast, encodeContext}
+use Rattle.image_kinds.proofs.Answers.{done-bytes, bytes-done}
+use Rattle.image_context.proofs.Fields.{type-byte, state-byte, byte-type, byte-state}
 use Rattle.image_context.proofs.Writing.{length-context}
 use Rattle.image.specs.declared.state.StateRead.{StateRead}
 use Rattle.image.specs.Fits.{Fits}

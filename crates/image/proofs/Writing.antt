@@ -19,7 +19,8 @@ use Rattle.context.specs.Context.{slotOf, noContext}
 use Rattle.context.specs.declared.Context.{Context}
 use Rattle.table.specs.declared.state.State.{State}
 use Rattle.image_context.specs.Fits.{FitsContext}
-use Rattle.image_context.specs.Context.{contextSize, encodeContext}
+use Rattle.image_kinds.specs.Kinds.{contextSize}
+use Rattle.image_context.specs.Context.{encodeContext}
 use Rattle.image_context.proofs.Writing.{length-context}
 use Rattle.image.specs.Fits.{Fits}
 use Rattle.image.specs.State.{contextsAt, supportAt, stateSize, encodeSlots, encodeState, writeAnswer, written}

@@ -14,7 +14,8 @@ use Rattle.children.specs.Marks.{slotCount}
 use Rattle.wire.specs.Le.{part, le, leBytes}
 use Rattle.context.specs.declared.Context.{Context}
 use Rattle.table.specs.declared.state.State.{State}
-use Rattle.image_context.specs.Context.{contextSize, decodeContext, first, contextAnswer, isGood, encodeContext}
+use Rattle.image_kinds.specs.Kinds.{contextSize, first, contextAnswer, isGood}
+use Rattle.image_context.specs.Context.{decodeContext, encodeContext}
 use Rattle.image.specs.declared.state.StateRead.{StateRead}
 
 -- where the contexts start

@@ -40,9 +40,9 @@ fn are_good(image: &[u8]) -> bool
 {
     let mut kinds: u32 = 0;
     for i in 0..MAX_HANDLES {
-        kinds = kinds | image_context::kind_at(image, CONTEXTS_AT + image_context::SIZE * i);
+        kinds = kinds | image_kinds::kind_at(image, CONTEXTS_AT + image_context::SIZE * i);
     }
-    image_context::are_good_kinds(kinds)
+    image_kinds::are_good_kinds(kinds)
 }
 
 // Whether the image reads. `readable` says why one does not.
@@ -63,7 +63,7 @@ pub fn readable(image: &[u8]) -> Outcome
         return Outcome::Refused(DpeErrorCode::Added(AddedErrorCode::BadLength));
     }
     for slot in 0..MAX_HANDLES {
-        let answer = image_context::answer_at(image, CONTEXTS_AT + image_context::SIZE * slot);
+        let answer = image_kinds::answer_at(image, CONTEXTS_AT + image_context::SIZE * slot);
         let Outcome::Done = answer else {
             return answer;
         };

@@ -1,13 +1,7 @@
 -- One context of the state image, from document 01's offsets. Assumes nothing: these are definitions.
-use Prim.Native.Nat.{ℕ, zero, suc, _+_, _*_, _%_}
-use mathlib.Core.Bool.{Bool, cond, _&&_}
+use Prim.Native.Nat.{ℕ, zero, suc}
 use mathlib.Core.List.{List, [], _∷_, _++_}
 use lib.ListN.{getD, replicate}
-use lib.Dec.{ltb}
-use Rattle.error.specs.declared.Outcome.{Outcome}
-use Rattle.error.specs.declared.Outcome.the-variants.{Done, Refused}
-use Rattle.error.specs.declared.DpeErrorCode.the-variants.{Validation}
-use Rattle.error.specs.declared.ValidationError.the-variants.{BadContextState, BadContextType}
 use Rattle.wire.specs.Le.{part, le, leBytes}
 use Rattle.context.specs.declared.tci.TciNodeData.{TciNodeData}
 use Rattle.context.specs.declared.ContextState.{ContextState}
@@ -15,10 +9,7 @@ use Rattle.context.specs.declared.ContextState.the-variants.{Inactive, Active, 
 use Rattle.context.specs.declared.ContextType.{ContextType}
 use Rattle.context.specs.declared.ContextType.the-variants.{Normal, Simulation}
 use Rattle.context.specs.declared.Context.{Context}
-
--- how many bytes a context has
-abbrev pub contextSize : ℕ
-contextSize = 144
+use Rattle.image_kinds.specs.Kinds.{contextSize, typeByteIn, stateByteIn}
 
 -- the state that a byte says, and the byte of a state
 unfoldable pub stateOf : ℕ → ContextState
@@ -41,13 +32,6 @@ typeByte Normal = 0
 typeByte Simulation = 1
 
 -- ---- read: each field at its offset
-
--- the type byte and the state byte
-abbrev pub typeByteIn : List ℕ → ℕ
-typeByteIn l = getD l 137 0
-
-abbrev pub stateByteIn : List ℕ → ℕ
-stateByteIn l = getD l 138 0
 
 -- the measurements of these bytes
 unfoldable pub decodeTci : List ℕ → TciNodeData
@@ -79,33 +63,6 @@ decodeContext l = record {
 -- the context of all zero bytes
 unfoldable pub blankContext : Context
 blankContext = decodeContext (replicate contextSize 0)
-
--- a state byte is 0 to 2, and a type byte 0 or 1
-abbrev pub stateAnswer : ℕ → Outcome
-stateAnswer b = cond (ltb b 3) Done (Refused (Validation BadContextState))
-
-abbrev pub typeAnswer : ℕ → Outcome
-typeAnswer b = cond (ltb b 2) Done (Refused (Validation BadContextType))
-
--- the first refusal of two answers
-abbrev pub first : Outcome → Outcome → Outcome
-first Done b = b
-first (Refused e) b = Refused e
-
--- what reading a context answers: the state byte is tested, and then the type byte
-unfoldable pub contextAnswer : List ℕ → Outcome
-contextAnswer l = first (stateAnswer (stateByteIn l)) (typeAnswer (typeByteIn l))
-
--- both bytes are in range
-unfoldable pub isGood : List ℕ → Bool
-isGood l = ltb (stateByteIn l) 3 && ltb (typeByteIn l) 2
-
--- both bytes as one word, with one state more; a word whose type is below 2, and which has less than four states
-abbrev pub kindWord : List ℕ → ℕ
-kindWord l = typeByteIn l + 256 * stateByteIn l + 256
-
-unfoldable pub goodWord : ℕ → Bool
-goodWord w = ltb (w % 256) 2 && ltb w 1024
 
 -- ---- written: field after field
 

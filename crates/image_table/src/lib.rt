@@ -92,7 +92,7 @@ fn write_contexts(state: State, out: &mut [u8])
         let a = state::CONTEXTS_AT + image_context::SIZE * i;
         let e = a + image_context::SIZE;
         let c = state.contexts[i];
-        image_context::write_context(&mut out[a..e], c);
+        image_write::write_context(&mut out[a..e], c);
     }
 }
 

@@ -13,10 +13,12 @@ use Rattle.context.specs.declared.Context.{Context}
 use Rattle.context.specs.Context.{slotOf, sameState}
 use Rattle.table.specs.State.{inState}
 use Rattle.context.specs.Bytes.{handleSize}
-use Rattle.image_context.specs.Context.{contextSize, stateOf, stateByteIn, decodeContext}
+use Rattle.image_kinds.specs.Kinds.{contextSize, stateByteIn}
+use Rattle.image_context.specs.Context.{stateOf, decodeContext}
 use Rattle.image.specs.State.{contextsAt, supportAt, slotBytes, slotIn, decodeState, readableOf}
 use Rattle.image.proofs.Reading.{state-slot, readable-good}
-use Rattle.image_context.proofs.Fields.{same-byte, done-bytes}
+use Rattle.image_kinds.proofs.Answers.{done-bytes}
+use Rattle.image_context.proofs.Fields.{same-byte}
 use Rattle.view.specs.declared.SlotFields.{SlotFields}
 use Rattle.view.specs.View.{fieldsOf}
 use Rattle.view.proofs.Fields.{state-fields}

@@ -5,7 +5,7 @@ use context::handle;
 use error::DpeErrorCode;
 use image::state::CONTEXTS_AT;
 use image_context::SIZE;
-use image_context::STATE_AT;
+use image_kinds::STATE_AT;
 use table::state::Found;
 ghost use mathlib.Core.Path.{_≡_};
 ghost use Prim.Native.Nat.{_<_};

@@ -37,7 +37,7 @@ pub fn put_context(image: &mut [u8], slot: usize, c: Context)
 {
     let a = state::CONTEXTS_AT + image_context::SIZE * slot;
     let e = a + image_context::SIZE;
-    image_context::write_context(&mut image[a..e], c);
+    image_write::write_context(&mut image[a..e], c);
 }
 
 // The table marked as initialised.

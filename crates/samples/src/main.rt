@@ -170,7 +170,7 @@ fn put_bad_state(t: State) {
     let mut image = [0u8; image::state::SIZE];
     image_table::write_state(t, &mut image);
     let at = image::state::CONTEXTS_AT + image_context::SIZE * BAD_SLOT;
-    image[at + image_context::STATE_AT] = BAD_STATE;
+    image[at + image_kinds::STATE_AT] = BAD_STATE;
     io::write_all(STDOUT_FILENO, &image);
 }
 

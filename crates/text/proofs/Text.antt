@@ -18,10 +18,10 @@ use Rattle.context.specs.declared.Context.{Context}
 use Rattle.table.specs.declared.state.State.{State}
 use Rattle.context.specs.Context.{slotOf, isInactive}
 use Rattle.image.specs.declared.state.StateRead.{StateRead}
-use Rattle.image_context.specs.Context.{first}
+use Rattle.image_kinds.specs.Kinds.{first}
 use Rattle.image.specs.Fits.{Fits}
 use Rattle.image.specs.State.{stateSize, decodeState, readableOf, encodeState}
-use Rattle.image_context.proofs.Fields.{first-done}
+use Rattle.image_kinds.proofs.Answers.{first-done}
 use Rattle.image.proofs.Reading.{readable-size, read-answer}
 use Rattle.image.proofs.RoundTrip.{state-again, write-read}
 use Rattle.verdict.specs.Tests.{verdictOf, outcomeOf}

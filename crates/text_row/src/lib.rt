@@ -51,8 +51,8 @@ pub fn put_row(out: &mut [u8], at: usize, slot: usize, f: SlotFields) -> usize
     let context_type = f.context_type;
     let parent = f.parent_idx as u32;
     let a = put_number(out, at, slot as u32, SPACE);
-    let b = put_number(out, a, image_context::state_byte(state) as u32, SPACE);
-    let c = put_number(out, b, image_context::type_byte(context_type) as u32, SPACE);
+    let b = put_number(out, a, image_write::state_byte(state) as u32, SPACE);
+    let c = put_number(out, b, image_write::type_byte(context_type) as u32, SPACE);
     let d = put_number(out, c, f.locality, SPACE);
     let e = put_number(out, d, parent, SPACE);
     put_number(out, e, children::count(f.children) as u32, NEWLINE)

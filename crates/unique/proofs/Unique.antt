@@ -81,12 +81,12 @@ use Rattle.image_context.proofs.state_of.Reads as image-context-state-of-reads
 use Rattle.image_context.proofs.type_of.Reads as image-context-type-of-reads
 use Rattle.image_context.proofs.read_context.Reads as image-context-read-context-reads
 use Rattle.image_context.proofs.blank.Reads as image-context-blank-reads
-use Rattle.image_context.proofs.answer_at.Reads as image-context-answer-at-reads
-use Rattle.image_context.proofs.kind_at.Reads as image-context-kind-at-reads
-use Rattle.image_context.proofs.are_good_kinds.Reads as image-context-are-good-kinds-reads
-use Rattle.image_context.proofs.write_context.Reads as image-context-write-context-reads
-use Rattle.image_context.proofs.state_byte.Reads as image-context-state-byte-reads
-use Rattle.image_context.proofs.type_byte.Reads as image-context-type-byte-reads
+use Rattle.image_kinds.proofs.answer_at.Reads as image-kinds-answer-at-reads
+use Rattle.image_kinds.proofs.kind_at.Reads as image-kinds-kind-at-reads
+use Rattle.image_kinds.proofs.are_good_kinds.Reads as image-kinds-are-good-kinds-reads
+use Rattle.image_write.proofs.write_context.Reads as image-write-write-context-reads
+use Rattle.image_write.proofs.state_byte.Reads as image-write-state-byte-reads
+use Rattle.image_write.proofs.type_byte.Reads as image-write-type-byte-reads
 use Rattle.image.proofs.state.readable.Reads as image-state-readable-reads
 use Rattle.image.proofs.state.is_readable.Reads as image-state-is-readable-reads
 use Rattle.image_table.proofs.read_state.Reads as image-table-read-state-reads
@@ -382,17 +382,17 @@ image-context-read-context κ a r r′ s s′ = one
 pub image-context-blank : OneResult image-context-blank-reads.Post
 image-context-blank κ a r r′ s s′ = one
 
-pub image-context-answer-at : OneResult image-context-answer-at-reads.Post
-image-context-answer-at κ a r r′ s s′ = one
+pub image-kinds-answer-at : OneResult image-kinds-answer-at-reads.Post
+image-kinds-answer-at κ a r r′ s s′ = one
 
-pub image-context-kind-at : OneResult image-context-kind-at-reads.Post
-image-context-kind-at κ a r r′ s s′ = one
+pub image-kinds-kind-at : OneResult image-kinds-kind-at-reads.Post
+image-kinds-kind-at κ a r r′ s s′ = one
 
-pub image-context-are-good-kinds : OneResult image-context-are-good-kinds-reads.Post
-image-context-are-good-kinds κ a r r′ s s′ = one
+pub image-kinds-are-good-kinds : OneResult image-kinds-are-good-kinds-reads.Post
+image-kinds-are-good-kinds κ a r r′ s s′ = one
 
-pub image-context-write-context : (κ : _) (a : _) (r r′ : _) (s s′ : _) → image-context-write-context-reads.Post κ a r s → image-context-write-context-reads.Post κ a r′ s′ → (now (s .0) ≡ now (s′ .0))
-image-context-write-context κ a r r′ s s′ p q = one p q
+pub image-write-write-context : (κ : _) (a : _) (r r′ : _) (s s′ : _) → image-write-write-context-reads.Post κ a r s → image-write-write-context-reads.Post κ a r′ s′ → (now (s .0) ≡ now (s′ .0))
+image-write-write-context κ a r r′ s s′ p q = one p q
 
 pub image-state-readable : OneResult image-state-readable-reads.Post
 image-state-readable κ a r r′ s s′ = one
@@ -529,11 +529,11 @@ dpe-path κ a r r′ s s′ p q = (one (p .0) (q .0), one (p .1 .0) (q .1 .0), o
 pub dpe-count : (κ : _) (a : _) (r r′ : _) (s s′ : _) → dpe-count-reads.Post κ a r s → dpe-count-reads.Post κ a r′ s′ → (r ≡ r′) × (now (s .1 .1 .0) ≡ now (s′ .1 .1 .0))
 dpe-count κ a r r′ s s′ p q = (one (p .0) (q .0), one (p .1) (q .1))
 
-pub image-context-state-byte : OneResult image-context-state-byte-reads.Post
-image-context-state-byte κ a r r′ s s′ = one
+pub image-write-state-byte : OneResult image-write-state-byte-reads.Post
+image-write-state-byte κ a r r′ s s′ = one
 
-pub image-context-type-byte : OneResult image-context-type-byte-reads.Post
-image-context-type-byte κ a r r′ s s′ = one
+pub image-write-type-byte : OneResult image-write-type-byte-reads.Post
+image-write-type-byte κ a r r′ s s′ = one
 
 pub text-row-put-number : (κ : _) (a : _) (r r′ : _) (s s′ : _) → text-row-put-number-reads.Post κ a r s → text-row-put-number-reads.Post κ a r′ s′ → (r ≡ r′) × (now (s .0) ≡ now (s′ .0))
 text-row-put-number κ a r r′ s s′ p q = (one (p .0 .place) (q .0 .place), one (p .0 .bytes) (q .0 .bytes))

@@ -10,7 +10,8 @@ use Rattle.wire.proofs.Part.{part-part, getD-part}
 use Rattle.context.specs.Context.{slotOf}
 use Rattle.context.specs.declared.ContextState.{ContextState}
 use Rattle.context.specs.declared.ContextType.{ContextType}
-use Rattle.image_context.specs.Context.{contextSize, stateOf, typeOf, decodeContext}
+use Rattle.image_kinds.specs.Kinds.{contextSize}
+use Rattle.image_context.specs.Context.{stateOf, typeOf, decodeContext}
 use Rattle.image.specs.State.{contextsAt, slotIn, decodeState}
 use Rattle.image.proofs.Reading.{state-slot}
 use Rattle.view.specs.declared.SlotFields.{SlotFields}

@@ -34,8 +34,8 @@ pub fn fields_at(image: &[u8], slot: usize) -> SlotFields
     let children = wire::read_u64(image, at + image_context::CHILDREN_AT);
     let locality = wire::read_u32(image, at + image_context::LOCALITY_AT);
     let parent_idx = image[at + image_context::PARENT_IDX_AT];
-    let context_type = image_context::type_of(image[at + image_context::CONTEXT_TYPE_AT]);
-    let state = image_context::state_of(image[at + image_context::STATE_AT]);
+    let context_type = image_context::type_of(image[at + image_kinds::CONTEXT_TYPE_AT]);
+    let state = image_context::state_of(image[at + image_kinds::STATE_AT]);
     SlotFields {
         state,
         context_type,

@@ -9,7 +9,7 @@ use borrow.Rule.Slice.PartMut.{putMid}
 use Rattle.wire.specs.Le.{put}
 use Rattle.wire.proofs.Put.{put-mid}
 use Rattle.image_context.proofs.Writing.{length-context}
-use Rattle.image_context.specs.Context.{contextSize}
+use Rattle.image_kinds.specs.Kinds.{contextSize}
 use Rattle.image.specs.State.{contextsAt}
 use Rattle.image.proofs.Reading.{readable-size}
 use Rattle.image_context.proofs.Owned.{context-fits}

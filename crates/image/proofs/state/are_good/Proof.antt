@@ -8,8 +8,8 @@ use denote.Ref.{now}
 use Rattle.children.specs.Below.{every}
 use Rattle.children.specs.Marks.{slotCount}
 use Rattle.wire.proofs.Part.{getD-part}
-use Rattle.image_context.specs.Context.{contextSize, typeByteIn, goodWord}
-use Rattle.image_context.proofs.Fields.{good-joined, good-kind}
+use Rattle.image_kinds.specs.Kinds.{contextSize, typeByteIn, goodWord}
+use Rattle.image_kinds.proofs.Answers.{good-joined, good-kind}
 use Rattle.image.specs.State.{contextsAt, slotBytes, goodSlot}
 use borrow.Author.Needs.{needs}
 use Rattle.image.proofs.state.are_good.Statement.{statement}

@@ -5,7 +5,8 @@ use native.Mathlib.Omega.{arith}
 use denote.Ref.{now}
 use borrow.Author.Needs.{needs}
 use Rattle.wire.specs.Le.{part}
-use Rattle.image_context.specs.Context.{contextSize, decodeContext}
+use Rattle.image_kinds.specs.Kinds.{contextSize}
+use Rattle.image_context.specs.Context.{decodeContext}
 use Rattle.image.specs.State.{contextsAt}
 use Rattle.image.proofs.Reading.{state-slot}
 use Rattle.peek.proofs.slot.context_at.Statement.{statement}

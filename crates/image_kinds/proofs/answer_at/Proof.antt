@@ -1,9 +1,9 @@
--- `image_context::answer_at` meets its contract. Assumes nothing.
+-- `image_kinds::answer_at` meets its contract. Assumes nothing.
 use denote.Ref.{now}
-use Rattle.image_context.proofs.Fields.{answer-is}
+use Rattle.image_kinds.proofs.Answers.{answer-is}
 use borrow.Author.Needs.{needs}
-use Rattle.image_context.proofs.answer_at.Statement.{statement}
-use Rattle.image_context.proofs.answer_at.Tie as tie
+use Rattle.image_kinds.proofs.answer_at.Statement.{statement}
+use Rattle.image_kinds.proofs.answer_at.Tie as tie
 
 add-state-answer : tie.Need-add-state-answer
 add-state-answer c = search needs

@@ -1,7 +1,7 @@
--- `image_context::state_answer` meets its contract. Assumes nothing.
+-- `image_kinds::state_answer` meets its contract. Assumes nothing.
 use borrow.Author.Tests.{lt-ltb, le-ltb}
-use Rattle.image_context.proofs.state_answer.Statement.{statement}
-use Rattle.image_context.proofs.state_answer.Tie as tie
+use Rattle.image_kinds.proofs.state_answer.Statement.{statement}
+use Rattle.image_kinds.proofs.state_answer.Tie as tie
 
 returns : tie.Need-returns
 returns c = rw (le-ltb _ _ (c .if1 .taken))

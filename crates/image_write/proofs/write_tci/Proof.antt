@@ -1,12 +1,12 @@
--- `image_context::write_tci` meets its contract. Assumes nothing.
+-- `image_write::write_tci` meets its contract. Assumes nothing.
 use native.Mathlib.Omega.{arith}
 use denote.Ref.{now}
 use Rattle.image_context.specs.Fits.{FitsTci}
 use Rattle.image_context.proofs.Owned.{tci-fits}
-use Rattle.image_context.proofs.Writing.{tci-put}
+use Rattle.image_write.proofs.Writing.{tci-put}
 use borrow.Author.Needs.{needs}
-use Rattle.image_context.proofs.write_tci.Statement.{statement}
-use Rattle.image_context.proofs.write_tci.Tie as tie
+use Rattle.image_write.proofs.write_tci.Statement.{statement}
+use Rattle.image_write.proofs.write_tci.Tie as tie
 
 -- the lengths that owning the measurements tells
 sizes : (c : tie.Start) → FitsTci (c .args .t)

@@ -1,5 +1,5 @@
--- `image_context::write_last` meets its contract. Assumes nothing.
+-- `image_write::write_last` meets its contract. Assumes nothing.
 use Rattle.image_context.specs.Context.{encodeLast}
 use native.Mathlib.Omega.{arith}
 use Prim.Native.Nat.{ℕ}
 use mathlib.Core.Path.{_∙_, ap}
@@ -9,8 +9,8 @@ use denote.Ref.{now}
 use Rattle.wire.specs.Le.{put}
 use Rattle.wire.proofs.Put.{put-sets}
 use borrow.Author.Needs.{needs}
-use Rattle.image_context.proofs.write_last.Statement.{statement}
-use Rattle.image_context.proofs.write_last.Tie as tie
+use Rattle.image_write.proofs.write_last.Statement.{statement}
+use Rattle.image_write.proofs.write_last.Tie as tie
 
 type-byte-requires : tie.Need-type-byte-requires
 type-byte-requires c κs = search needs

@@ -1,13 +1,13 @@
--- `image_context::kind_at` meets its contract. Assumes nothing.
+-- `image_kinds::kind_at` meets its contract. Assumes nothing.
 use mathlib.Core.Path.{sym, ap₂}
 use Prim.Native.Nat.{ℕ, _+_, _*_}
 use native.Mathlib.Omega.{arith}
 use denote.Ref.{now}
 use Rattle.wire.proofs.Part.{getD-part}
-use Rattle.image_context.specs.Context.{contextSize}
+use Rattle.image_kinds.specs.Kinds.{contextSize}
 use borrow.Author.Needs.{needs}
-use Rattle.image_context.proofs.kind_at.Statement.{statement}
-use Rattle.image_context.proofs.kind_at.Tie as tie
+use Rattle.image_kinds.proofs.kind_at.Statement.{statement}
+use Rattle.image_kinds.proofs.kind_at.Tie as tie
 
 add-context-type : tie.Need-add-context-type
 add-context-type c = search needs

@@ -1,11 +1,11 @@
--- `image_context::write_context` meets its contract. Assumes nothing.
+-- `image_write::write_context` meets its contract. Assumes nothing.
 use native.Mathlib.Omega.{arith}
 use denote.Ref.{now}
 use Rattle.image_context.proofs.Owned.{context-fits}
-use Rattle.image_context.proofs.Writing.{context-put}
+use Rattle.image_write.proofs.Writing.{context-put}
 use borrow.Author.Needs.{needs}
-use Rattle.image_context.proofs.write_context.Statement.{statement}
-use Rattle.image_context.proofs.write_context.Tie as tie
+use Rattle.image_write.proofs.write_context.Statement.{statement}
+use Rattle.image_write.proofs.write_context.Tie as tie
 
 slice-aggregate-write-run : tie.Need-slice-aggregate-write-run
 slice-aggregate-write-run c = search needs
