@@ -24,8 +24,10 @@ use Rattle.forest.specs.Destroy.{doomedWord}
 use Rattle.lookup.specs.Lookup.{lookupIn}
 use Rattle.links.specs.declared.Links.{Links}
 use Rattle.links.specs.Summary.{summaryOf, numberIn}
-use Rattle.walks.specs.Walks.{downFrom, descendantsIn, runFrom, runIn}
-use Rattle.walks.proofs.Summary.{down-summary, run-summary}
+use Rattle.walks.specs.Walks.{downFrom, descendantsIn}
+use Rattle.walks_run.specs.Run.{runFrom, runIn}
+use Rattle.walks.proofs.Summary.{down-summary}
+use Rattle.walks_run.proofs.Summary.{run-summary}
 use Rattle.destroy_context.specs.declared.Destroyed.{Destroyed}
 use Rattle.destroy_context.specs.Destroy.{clearedBy, refusedBy, onDown, onRun, doomedOf, doomedIn, onDoomed, destroySlotOf, onFound, destroyOf}
 

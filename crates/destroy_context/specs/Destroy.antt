@@ -20,7 +20,8 @@ use Rattle.table.specs.State.{withContexts}
 use Rattle.forest.specs.Destroy.{doomedWord}
 use Rattle.lookup.specs.Lookup.{lookupIn}
 use Rattle.links.specs.Summary.{liveAt, retiredAt, parentAt, kidsAt}
-use Rattle.walks.specs.Walks.{downFrom, runFrom}
+use Rattle.walks.specs.Walks.{downFrom}
+use Rattle.walks_run.specs.Run.{runFrom}
 use Rattle.destroy_context.specs.declared.Destroyed.{Destroyed}
 
 -- the context c of slot i: cleared where the set has the slot, and else without the marks of the set, all 64 of them

@@ -10,7 +10,6 @@ use links::Links;
 use table::state::Found;
 use table::state::State;
 use walks::descendants;
-use walks::run;
 ghost use mathlib.Core.Path.{_≡_};
 ghost use Prim.Native.Nat.{_<_};
 ghost use Rattle.children.specs.Marks.{slotCount, marked};
@@ -68,7 +67,7 @@ fn doomed(l: Links, slot: usize) -> Answer
     let children = l.children;
     let parents = l.parents;
     let start = parents[slot];
-    let above = run::run_above(&children, &parents, l.retired, start);
+    let above = walks_run::run_above(&children, &parents, l.retired, start);
     let Answer::Marks(retired) = above else {
         return above;
     };

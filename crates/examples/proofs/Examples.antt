@@ -12,7 +12,9 @@ use Rattle.forest.specs.Search.{each, visit, searchRoots, lastTests, judge, fin
 use Rattle.lookup.specs.Lookup.{lookupIn}
 use Rattle.candidates.specs.Candidates.{usable, chosenIn}
 use Rattle.initialize_context.specs.Initialize.{initializedOf}
-use Rattle.walks.specs.Walks.{toldOf, descendantsIn, runFrom}
+use Rattle.forest.specs.Told.{toldOf}
+use Rattle.walks.specs.Walks.{descendantsIn}
+use Rattle.walks_run.specs.Run.{runFrom}
 use Rattle.destroy_context.specs.Destroy.{clearedSlot, clearedBy, onDown, onRun, doomedOf, onDoomed, destroySlotOf, onFound, destroyOf}
 use Rattle.verdict.specs.Tests.{need, first, firstBelow, whereOf, isZeroTci, supportOf, inactiveOf, parentTest, childTest, linksTest, stateOf, contextOf, mixTest, localityOf, localitiesTest, foundFault, forestOf, verdict}
 use Rattle.examples.specs.Examples.{Example, resultOf, examples}

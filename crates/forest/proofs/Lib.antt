@@ -5,6 +5,7 @@ pub mod Links
 pub mod Fuel
 pub mod Enough
 pub mod EnoughUp
+pub mod Told
 pub mod Descend
 pub mod Ascend
 pub mod Destroy

@@ -2,5 +2,6 @@
 pub mod Links
 pub mod Walk
 pub mod Run
+pub mod Told
 pub mod Destroy
 pub mod Search

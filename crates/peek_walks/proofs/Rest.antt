@@ -14,7 +14,7 @@ use Rattle.children.proofs.Below.{low-ge, low-le, low-bare, low-passes}
 use Rattle.children.proofs.Cases.{two}
 use Rattle.children.proofs.Marks.{joined-assoc}
 use Rattle.forest.specs.Walk.{Answer, loops, bad, ok, both, over, walkDown}
-use Rattle.walks.specs.Walks.{toldOf}
+use Rattle.forest.specs.Told.{toldOf}
 use Rattle.walks.proofs.Down.{child, walk-over}
 
 -- ---- answers joined

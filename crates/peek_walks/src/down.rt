@@ -14,7 +14,8 @@ ghost use Rattle.context.specs.Context.{slotOf};
 ghost use Rattle.image.specs.State.{stateSize, decodeState};
 ghost use Rattle.forest.specs.Walk.{walkDown};
 ghost use Rattle.links.specs.Summary.{liveAt, kidsAt};
-ghost use Rattle.walks.specs.Walks.{toldOf, descendantsIn};
+ghost use Rattle.forest.specs.Told.{toldOf};
+ghost use Rattle.walks.specs.Walks.{descendantsIn};
 
 // The stored marks of a slot, joined with the descendants of each child. `path` marks the slots on the way down to it; `depth` is how many more may come.
 // The last child of a slot takes its place, so that only a child with another after it is a call.

@@ -5,7 +5,6 @@ use error::DpeErrorCode;
 use error::InternalErrorCode;
 use peek::slot;
 use table::state::Found;
-use walks::run;
 ghost use mathlib.Core.Path.{_≡_};
 ghost use Prim.Native.Nat.{ℕ, _≤_};
 ghost use lib.ListN.{length, take};
@@ -29,12 +28,12 @@ fn parent_of(image: &[u8], slot: usize) -> Found
     }
     let p = slot::parent_at(image, slot);
     if p == ROOT_INDEX {
-        return Found::At(run::index(p));
+        return Found::At(walks_run::index(p));
     }
-    if run::index(p) >= MAX_HANDLES {
+    if walks_run::index(p) >= MAX_HANDLES {
         return Found::Refused(DpeErrorCode::InvalidHandle);
     }
-    Found::At(run::index(p))
+    Found::At(walks_run::index(p))
 }
 
 // The climb from a slot to its root, each parent read once: how many slots the path has, or why there is none. `up` gets the slots met, the slot itself first.
@@ -50,7 +49,7 @@ fn climbed(image: &[u8], slot: usize, up: &mut [u8; MAX_HANDLES]) -> Found
             return f;
         };
         up[j] = walks_path::byte(x);
-        if p == run::index(ROOT_INDEX) {
+        if p == walks_run::index(ROOT_INDEX) {
             return Found::At(j + 1);
         }
         x = p;

@@ -6,14 +6,13 @@ use error::AddedErrorCode;
 use error::DpeErrorCode;
 use error::InternalErrorCode;
 use peek::slot;
-use walks::run;
 ghost use mathlib.Core.Path.{_≡_};
 ghost use lib.ListN.{length};
 ghost use Rattle.children.specs.Marks.{slotCount};
 ghost use Rattle.context.specs.Context.{slotOf};
 ghost use Rattle.image.specs.State.{stateSize, decodeState};
 ghost use Rattle.links.specs.Summary.{retiredAt, parentAt, kidsAt};
-ghost use Rattle.walks.specs.Walks.{runFrom};
+ghost use Rattle.walks_run.specs.Run.{runFrom};
 
 // The run from the slot `start` upward, as marks.
 pub fn run_above(image: &[u8], start: u8) -> Answer
@@ -23,7 +22,7 @@ pub fn run_above(image: &[u8], start: u8) -> Answer
     let mut taken = children::empty();
     let mut p = start;
     for d in 0..MAX_HANDLES {
-        let i = run::index(p);
+        let i = walks_run::index(p);
         if i >= MAX_HANDLES {
             if p == ROOT_INDEX {
                 return Answer::Marks(taken);

@@ -14,7 +14,8 @@ use Rattle.forest.specs.Walk.{ok, walkDown}
 use Rattle.forest.proofs.Descend.{descends}
 use Rattle.links.specs.Summary.{liveAt, retiredAt, parentAt, kidsAt, tableOf, Words}
 use Rattle.links.proofs.Tables.{reads-of}
-use Rattle.walks.specs.Walks.{toldOf, descendantsIn}
+use Rattle.forest.specs.Told.{toldOf}
+use Rattle.walks.specs.Walks.{descendantsIn}
 use Rattle.verdict.specs.Tests.{Header, headerOf}
 use Rattle.verdict.specs.Rule.{Live, ForestRule, Forest}
 use Rattle.verdict.proofs.Trees.{live-is}

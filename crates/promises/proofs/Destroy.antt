@@ -24,7 +24,8 @@ use Rattle.links.specs.Summary.{liveAt, retiredAt, parentAt, kidsAt, tableOf, W
 use Rattle.links.proofs.Tables.{reads-of}
 use Rattle.lookup.specs.Lookup.{lookupIn}
 use Rattle.lookup.proofs.Lookup.{Target, found-iff, refused-by}
-use Rattle.walks.specs.Walks.{toldOf, runFrom, runIn}
+use Rattle.forest.specs.Told.{toldOf}
+use Rattle.walks_run.specs.Run.{runFrom, runIn}
 use Rattle.destroy_context.specs.Destroy.{clearedSlot, clearedBy, destroyOf}
 use Rattle.destroy_context.proofs.Calls.{both-walked, not-found, found-at}
 use Rattle.verdict.specs.Tests.{headerOf}

@@ -55,8 +55,8 @@ use Rattle.walks.proofs.descendants.get_descendants.Reads as walks-descendants-
 use Rattle.walks_path.proofs.byte.Reads as walks-path-byte-reads
 use Rattle.walks.proofs.why.Reads as walks-why-reads
 use Rattle.walks_path.proofs.root_to_leaf.Reads as walks-path-root-to-leaf-reads
-use Rattle.walks.proofs.run.index.Reads as walks-run-index-reads
-use Rattle.walks.proofs.run.run_above.Reads as walks-run-run-above-reads
+use Rattle.walks_run.proofs.index.Reads as walks-run-index-reads
+use Rattle.walks_run.proofs.run_above.Reads as walks-run-run-above-reads
 use Rattle.wire.proofs.read_u16.Reads as wire-read-u16-reads
 use Rattle.wire.proofs.read_u32.Reads as wire-read-u32-reads
 use Rattle.wire.proofs.read_u64.Reads as wire-read-u64-reads

@@ -13,7 +13,7 @@ use Rattle.children.specs.Marks.{marked, with, joined, nextBelow}
 use Rattle.children.proofs.Below.{low-ge, low-le, low-bare, low-passes}
 use Rattle.children.proofs.Cases.{two}
 use Rattle.forest.specs.Walk.{Answer, loops, bad, ok, both, over, walkDown}
-use Rattle.walks.specs.Walks.{toldOf}
+use Rattle.forest.specs.Told.{toldOf}
 
 -- ---- what is told
 

@@ -1,5 +1,4 @@
 -- Laws that belong to no one function; callers cite them.
 pub mod Down
-pub mod Up
 pub mod Returns
 pub mod Summary

@@ -1,33 +1,20 @@
--- The walks down and up over a summary are the walks over its table. Assumes nothing.
-use mathlib.Core.Bool.{_&&_}
-use mathlib.Core.Path.{_≡_, ap, ap₂, _∙_}
+-- The walk down over a summary is the walk over its table. Assumes nothing.
+use mathlib.Core.Path.{_≡_, ap, _∙_}
 use Prim.Native.Nat.{ℕ, _<_}
-use lib.Dec.{eqb}
 use borrow.Author.Tests.{lt-ltb}
-use Rattle.error.specs.declared.DpeErrorCode.the-variants.{InternalError, InvalidHandle}
-use Rattle.error.specs.declared.InternalErrorCode.the-variants.{DestroyParentIndexOob}
-use Rattle.children.specs.Marks.{slotCount, marked, countBelow}
+use Rattle.error.specs.declared.DpeErrorCode.the-variants.{InvalidHandle}
+use Rattle.children.specs.Marks.{slotCount, marked}
 use Rattle.context.specs.declared.Context.{Context}
 use Rattle.forest.specs.Walk.{walkDown}
-use Rattle.forest.specs.Run.{singleIn, climb}
+use Rattle.forest.specs.Told.{toldOf}
 use Rattle.forest.proofs.Enough.{walk-same}
-use Rattle.forest.proofs.EnoughUp.{climb-same}
 use Rattle.links.specs.declared.Links.{Links}
-use Rattle.links.specs.Summary.{liveAt, retiredAt, parentAt, kidsAt, summaryOf, numberIn}
-use Rattle.links.proofs.Summary.{says-live, says-retired, says-parent, says-kids}
-use Rattle.walks.specs.Walks.{toldOf, descendantsIn, runFrom, runIn}
+use Rattle.links.specs.Summary.{liveAt, kidsAt, summaryOf, numberIn}
+use Rattle.links.proofs.Summary.{says-live, says-kids}
+use Rattle.walks.specs.Walks.{descendantsIn}
 
 module _ (s : ℕ → Context) (l : Links) (e : l ≡ summaryOf s) (slot : ℕ) (h : slot < slotCount) where
   pub down-summary : toldOf InvalidHandle (walkDown slotCount (marked (l .live)) (numberIn (l .children)) slotCount 0 slot) ≡ descendantsIn slotCount s slot
   unfolding descendantsIn
   down-summary =
       ap (toldOf InvalidHandle) (walk-same slotCount _ (liveAt s) _ (kidsAt s) (says-live s l e) (says-kids s l e) slotCount 0 slot h) ∙ rw (lt-ltb slot slotCount h)
-
-  pub run-summary : runFrom slotCount (marked (l .retired)) (numberIn (l .parents)) (numberIn (l .children)) (numberIn (l .parents) slot) ≡ runIn slotCount s slot
-  unfolding runFrom
-  run-summary =
-      ap (λ (p : ℕ). toldOf (InternalError DestroyParentIndexOob) (climb slotCount (singleIn slotCount (marked (l .retired)) (numberIn (l .children))) (numberIn (l .parents)) slotCount 0 p))
-      (says-parent s l e slot h)
-      ∙ ap (toldOf (InternalError DestroyParentIndexOob)) (climb-same slotCount _ (singleIn slotCount (retiredAt s) (kidsAt s)) _ (parentAt s)
-      (λ i k. ap₂ _&&_ (says-retired s l e i k) (ap (λ (m : ℕ). eqb (countBelow slotCount m) 1) (says-kids s l e i k)))
-      (λ i k p. says-parent s l e i k) slotCount 0 (parentAt s slot))

@@ -12,7 +12,8 @@ ghost use Rattle.children.specs.Marks.{slotCount, marked};
 ghost use Rattle.context.specs.Context.{slotOf};
 ghost use Rattle.forest.specs.Walk.{walkDown};
 ghost use Rattle.links.specs.Summary.{numberIn};
-ghost use Rattle.walks.specs.Walks.{toldOf, descendantsIn};
+ghost use Rattle.forest.specs.Told.{toldOf};
+ghost use Rattle.walks.specs.Walks.{descendantsIn};
 
 // The stored marks of a slot, joined with the descendants of each child. `path` marks the slots on
 // the way down to it; `depth` is how many more may come.

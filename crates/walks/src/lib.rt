@@ -1,7 +1,6 @@
-// The walks over the links of a table: down to all descendants, and up the run above a slot. state.rs and destroy_context.rs.
-// They run over the summary of the links, from mark to mark, and end on every table.
+// The walk over the links of a table down to all descendants. state.rs.
+// It runs over the summary of the links, from mark to mark, and ends on every table.
 pub mod descendants;
-pub mod run;
 
 use children::Answer;
 use error::DpeErrorCode;

@@ -6,7 +6,6 @@ use error::DpeErrorCode;
 use error::InternalErrorCode;
 use table::state::Found;
 use table::state::State;
-use walks::run;
 ghost use mathlib.Core.Path.{_≡_};
 ghost use Rattle.children.specs.Marks.{slotCount, marked};
 ghost use Rattle.context.specs.Context.{slotOf};
@@ -32,12 +31,12 @@ fn parent_of(parents: &[u8; MAX_HANDLES], live: u64, slot: usize) -> Found
     }
     let p = parents[slot];
     if p == ROOT_INDEX {
-        return Found::At(run::index(p));
+        return Found::At(walks_run::index(p));
     }
-    if run::index(p) >= MAX_HANDLES {
+    if walks_run::index(p) >= MAX_HANDLES {
         return Found::Refused(DpeErrorCode::InvalidHandle);
     }
-    Found::At(run::index(p))
+    Found::At(walks_run::index(p))
 }
 
 // How many slots the path to a slot has.
@@ -50,7 +49,7 @@ fn length(parents: &[u8; MAX_HANDLES], live: u64, slot: usize) -> Found
         let Found::At(p) = f else {
             return f;
         };
-        if p == run::index(ROOT_INDEX) {
+        if p == walks_run::index(ROOT_INDEX) {
             return Found::At(j + 1);
         }
         x = p;
@@ -78,7 +77,7 @@ fn laid(parents: &[u8; MAX_HANDLES], slot: usize, k: usize) -> [u8; MAX_HANDLES]
     let mut x = slot;
     for j in 0..k {
         slots[k - 1 - j] = byte(x);
-        x = run::index(parents[x]);
+        x = walks_run::index(parents[x]);
     }
     slots
 }

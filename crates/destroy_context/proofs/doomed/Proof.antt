@@ -6,7 +6,7 @@ use Rattle.children.specs.declared.Answer.the-variants.{Marks}
 use Rattle.children.specs.Marks.{slotCount, marked, joined}
 use Rattle.forest.specs.Walk.{walkDown}
 use Rattle.links.specs.Summary.{numberIn}
-use Rattle.walks.specs.Walks.{toldOf}
+use Rattle.forest.specs.Told.{toldOf}
 use Rattle.destroy_context.proofs.Calls.{doomed-outside, doomed-run, doomed-down, doomed-both}
 use borrow.Author.Needs.{needs}
 use Rattle.destroy_context.proofs.doomed.Statement.{statement}

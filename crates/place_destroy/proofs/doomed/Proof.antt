@@ -9,7 +9,8 @@ use Rattle.context.specs.Context.{slotOf}
 use Rattle.image.specs.State.{decodeState}
 use Rattle.forest.specs.Walk.{walkDown}
 use Rattle.links.specs.Summary.{liveAt, retiredAt, parentAt, kidsAt}
-use Rattle.walks.specs.Walks.{toldOf, runFrom}
+use Rattle.forest.specs.Told.{toldOf}
+use Rattle.walks_run.specs.Run.{runFrom}
 use Rattle.destroy_context.proofs.Calls.{doomed-run, doomed-down, doomed-both}
 use borrow.Author.Needs.{needs}
 use Rattle.place_destroy.proofs.doomed.Statement.{statement}

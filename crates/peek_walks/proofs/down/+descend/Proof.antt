@@ -16,7 +16,7 @@ use Rattle.context.specs.Context.{slotOf}
 use Rattle.image.specs.State.{decodeState}
 use Rattle.forest.specs.Walk.{Answer, ok, both, walkDown}
 use Rattle.links.specs.Summary.{liveAt, kidsAt}
-use Rattle.walks.specs.Walks.{toldOf}
+use Rattle.forest.specs.Told.{toldOf}
 use Rattle.walks.proofs.Down.{child, on-path, off-path, told-marks, walk-spent, walk-inactive}
 use Rattle.peek_walks.proofs.Rest.{begins, rest, next-marked, rest-on, rest-none, rest-last, refused-on, rest-begins}
 use Rattle.peek_walks.proofs.down.descend.Reads as descend

@@ -11,7 +11,8 @@ use Rattle.context.specs.Context.{slotOf}
 use Rattle.image.specs.State.{decodeState}
 use Rattle.forest.specs.Walk.{walkDown}
 use Rattle.links.specs.Summary.{liveAt, kidsAt}
-use Rattle.walks.specs.Walks.{toldOf, downFrom, descendantsIn}
+use Rattle.forest.specs.Told.{toldOf}
+use Rattle.walks.specs.Walks.{downFrom, descendantsIn}
 use Rattle.peek_walks.proofs.down.get_descendants.Statement.{statement}
 use Rattle.peek_walks.proofs.down.get_descendants.Tie as tie
 

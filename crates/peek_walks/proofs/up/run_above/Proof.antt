@@ -12,8 +12,9 @@ use Rattle.image.specs.State.{decodeState}
 use Rattle.forest.specs.Walk.{Answer}
 use Rattle.forest.specs.Run.{singleIn, climb}
 use Rattle.links.specs.Summary.{retiredAt, parentAt, kidsAt}
-use Rattle.walks.specs.Walks.{toldOf, runFrom}
-use Rattle.walks.proofs.Up.{climb-top, climb-out, climb-ends, climb-goes, climb-spent, climb-moved, single-yes, single-other, single-many}
+use Rattle.forest.specs.Told.{toldOf}
+use Rattle.walks_run.specs.Run.{runFrom}
+use Rattle.walks_run.proofs.Up.{climb-top, climb-out, climb-ends, climb-goes, climb-spent, climb-moved, single-yes, single-other, single-many}
 use Rattle.peek_walks.proofs.up.run_above.Statement.{statement}
 use Rattle.peek_walks.proofs.up.run_above.Tie as tie
 

@@ -12,7 +12,7 @@ use Rattle.children.specs.Marks.{slotCount, marked}
 use Rattle.children.proofs.Cases.{not-true, not-false}
 use Rattle.forest.specs.Walk.{ok, over, walkDown}
 use Rattle.links.specs.Summary.{numberIn}
-use Rattle.walks.specs.Walks.{toldOf}
+use Rattle.forest.specs.Told.{toldOf}
 use Rattle.walks.proofs.Down.{child, on-path, off-path, Turn, turn-on, told-marks, over-joined, over-loops, over-refused, walk-spent, walk-inactive, walk-over}
 use Rattle.walks.proofs.descendants.descend.Reads as descend
 use Rattle.walks.proofs.descendants.descend.Kinds as descend-kinds

@@ -8,7 +8,8 @@ use Rattle.children.specs.Marks.{slotCount, marked}
 use Rattle.context.specs.Context.{slotOf}
 use Rattle.forest.specs.Walk.{walkDown}
 use Rattle.links.specs.Summary.{numberIn}
-use Rattle.walks.specs.Walks.{toldOf, descendantsIn}
+use Rattle.forest.specs.Told.{toldOf}
+use Rattle.walks.specs.Walks.{descendantsIn}
 use Rattle.walks.proofs.Summary.{down-summary}
 use borrow.Author.Needs.{needs}
 use Rattle.walks.proofs.descendants.get_descendants.Statement.{statement}

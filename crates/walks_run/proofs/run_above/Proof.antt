@@ -1,4 +1,4 @@
--- `walks::run::run_above` meets its contract. Assumes nothing.
+-- `walks_run::run_above` meets its contract. Assumes nothing.
 use mathlib.Core.Path.{_≡_, sym, ap, _∙_}
 use Prim.Native.Nat.{ℕ, _≤_, _<_, _-_}
 use native.Mathlib.Omega.{arith}
@@ -9,10 +9,11 @@ use Rattle.children.proofs.Cases.{not-true, not-false}
 use Rattle.children.proofs.Marks.{seen}
 use Rattle.forest.specs.Run.{singleIn, climb}
 use Rattle.links.specs.Summary.{numberIn}
-use Rattle.walks.specs.Walks.{toldOf, runFrom}
-use Rattle.walks.proofs.Up.{climb-top, climb-out, climb-ends, climb-goes, climb-spent, climb-moved, single-yes, single-other, single-many}
-use Rattle.walks.proofs.run.run_above.Statement.{statement}
-use Rattle.walks.proofs.run.run_above.Tie as tie
+use Rattle.forest.specs.Told.{toldOf}
+use Rattle.walks_run.specs.Run.{runFrom}
+use Rattle.walks_run.proofs.Up.{climb-top, climb-out, climb-ends, climb-goes, climb-spent, climb-moved, single-yes, single-other, single-many}
+use Rattle.walks_run.proofs.run_above.Statement.{statement}
+use Rattle.walks_run.proofs.run_above.Tie as tie
 
 abbrev Inv-loop : tie.InvT-loop
 Inv-loop children parents retired start taken₀ p₀ d₀ taken p d =

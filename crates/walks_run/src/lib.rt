@@ -1,4 +1,5 @@
 // The run above a slot: the retired slots with one child each, upward without a break. destroy_context.rs.
+// It runs over the summary of the links, and ends on every table.
 use children::Answer;
 use children::MAX_HANDLES;
 use context::ROOT_INDEX;
@@ -8,7 +9,7 @@ use error::InternalErrorCode;
 ghost use mathlib.Core.Path.{_≡_};
 ghost use Rattle.children.specs.Marks.{slotCount, marked};
 ghost use Rattle.links.specs.Summary.{numberIn};
-ghost use Rattle.walks.specs.Walks.{runFrom};
+ghost use Rattle.walks_run.specs.Run.{runFrom};
 
 pub fn index(x: u8) -> usize
     ensures { λ r. ⌜ r ≡ x ⌝ }
