@@ -20,7 +20,7 @@ use Rattle.children.specs.Below.{some, lowestFrom, lowest}
 use Rattle.children.proofs.Cases.{clash, order, and-true, and-both, and-right, not-true, leb-true}
 use Rattle.children.proofs.Below.{low-here, low-on, low-end, low-bare, low-passes, low-ge, low-same, none-at, some-same}
 use Rattle.context.specs.declared.Context.{Context}
-use Rattle.context.specs.Bytes.{handleSize, sameBytes, defaultHandle, isDefault}
+use Rattle.handle.specs.Handle.{handleSize, sameBytes, defaultHandle, isDefault}
 use Rattle.context.proofs.Bytes.{same-iff}
 use Rattle.candidates.specs.declared.Chosen.{Chosen}
 use Rattle.candidates.specs.Candidates.{attempts, candidateAt, holds, hasHandle, usable, usableAt, takenOf, untakenOf, noneUsable, chosenIn}

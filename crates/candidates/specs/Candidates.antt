@@ -12,7 +12,7 @@ use Rattle.error.specs.declared.AddedErrorCode.the-variants.{CandidatesShort}
 use Rattle.error.specs.declared.Outcome.the-variants.{Done, Refused}
 use Rattle.children.specs.Below.{some, lowest}
 use Rattle.context.specs.declared.Context.{Context}
-use Rattle.context.specs.Bytes.{handleSize, sameBytes, defaultHandle, isDefault}
+use Rattle.handle.specs.Handle.{handleSize, sameBytes, defaultHandle, isDefault}
 use Rattle.candidates.specs.declared.Chosen.{Chosen}
 
 -- only eight are tried

@@ -1,7 +1,6 @@
 // The choice of a new handle among lent candidates. `generate_new_handle` of dpe_instance.rs, with a buffer in place of the crypto service.
 use children::MAX_HANDLES;
 use context::Context;
-use context::handle;
 use error::AddedErrorCode;
 use error::DpeErrorCode;
 use error::InternalErrorCode;
@@ -11,7 +10,7 @@ ghost use mathlib.Core.Path.{_≡_};
 ghost use Prim.Native.Nat.{_+_, _*_, _≤_};
 ghost use lib.ListN.{length};
 ghost use Rattle.children.specs.Marks.{slotCount};
-ghost use Rattle.context.specs.Bytes.{handleSize, sameBytes};
+ghost use Rattle.handle.specs.Handle.{handleSize, sameBytes};
 ghost use Rattle.context.specs.Context.{slotOf};
 ghost use Rattle.candidates.specs.Candidates.{candidateAt, untakenOf, chosenIn};
 

@@ -1,16 +1,16 @@
 -- Laws of the numbers below n. Assumes nothing.
 use mathlib.Core.Path.{_≡_, refl, sym, ap, ap₂, _∙_}
-use mathlib.Core.Logic.{_⊎_, inl, inr}
-use mathlib.Core.Bool.{Bool, true, false, cond, _&&_, _||_}
+use mathlib.Core.Logic.{inl, inr}
+use mathlib.Core.Bool.{Bool, true, false, cond, _||_}
 use mathlib.Core.List.{List, [], _∷_, _++_}
 use Prim.Native.Nat.{ℕ, zero, suc, _+_, _-_, _≤_, _<_}
 use native.Mathlib.Decide.{ℕ-discrete, decLt}
 use native.Mathlib.Numerals.{add-one}
 use native.Mathlib.Omega.{arith}
-use lib.ListN.{length, getD, take, drop, set, length-append}
+use lib.ListN.{length, getD, take, set, length-append}
 use lib.Seq.{take-suc-set}
 use Rattle.children.specs.Below.{count, some, every, lowestFrom, listOf}
-use Rattle.children.proofs.Cases.{two, clash, and-true, or-cases, or-right, or-left, or-none}
+use Rattle.children.proofs.Cases.{two, clash, and-true, or-cases, or-right, or-left}
 
 -- ---- how many
 

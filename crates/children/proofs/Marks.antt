@@ -1,8 +1,8 @@
 -- The laws of marks, for any slot below 64 and any number of slots up to 64. Assumes nothing.
-use mathlib.Core.Bool.{Bool, true, false, cond, not, _&&_, _||_, or-assoc, or-false}
-use mathlib.Core.Path.{_≡_, refl, sym, ap, ap₂, _∙_, subst}
+use mathlib.Core.Bool.{Bool, true, false, not, _&&_, _||_, or-assoc, or-false}
+use mathlib.Core.Path.{_≡_, refl, sym, ap, _∙_, subst}
 use mathlib.Core.Logic.{_⊎_, inl, inr}
-use Prim.Native.Nat.{ℕ, zero, suc, _+_, _-_, _*_, _/_, _%_, _^_, _≤_, _<_, zero-le, suc-le-suc}
+use Prim.Native.Nat.{ℕ, zero, suc, _+_, _-_, _*_, _/_, _%_, _^_, _≤_, _<_, suc-le-suc}
 use native.Mathlib.Nat.{zero-div, mod-lt, pow-suc, pow-succ', le-of-suc-le-suc, not-suc-le-zero, zero-lt-suc, div-add-mod', div-lt-iff-lt-mul, div-div-eq-div-mul, div-eq-of-lt, mul-div-cancel, lt-of-lt-of-le, zero-mul, one-mul, zero-add}
 use native.Mathlib.Numerals.{add-one, one-add}
 use native.Mathlib.Decide.{ℕ-discrete}
@@ -10,13 +10,13 @@ use native.Mathlib.Omega.{arith}
 use lib.Arith.{lt-one}
 use lib.Bits.{bitAnd, bitOr, or-shr, or-mod, and-shr, and-mod, or-lt, and-le-l, and-high}
 use lib.Count.{trailingZeros, under, ones, onesIn, ones-cat}
-use lib.Dec.{ltb, eqb, eqb·zero-suc, eqb·suc-zero, eqb·suc-suc}
+use lib.Dec.{eqb, eqb·zero-suc, eqb·suc-zero, eqb·suc-suc}
 use lib.Pow.{pow-pos, pow-lt, pow-mono, shr-shr, mod-pow-add, mod-mod-pow, field}
 use borrow.Author.Tests.{eq-eqb, ne-eqb, lt-ltb, le-ltb}
 use Rattle.children.specs.Below.{count, lowestFrom}
-use Rattle.children.specs.Marks.{markCount, marked, hasBelow, with, joined, without, withIf, countBelow, nextBelow}
-use Rattle.children.proofs.Cases.{two, clash, true-eqb, eqb-true}
-use Rattle.children.proofs.Below.{count-le, count-same, count-put, low-ge}
+use Rattle.children.specs.Marks.{markCount, marked, hasBelow, with, joined, without, countBelow, nextBelow}
+use Rattle.children.proofs.Cases.{true-eqb}
+use Rattle.children.proofs.Below.{count-le, count-put, low-ge, low-passes}
 
 two-pos : zero < 2
 two-pos = zero-lt-suc 1
@@ -281,6 +281,10 @@ next-out (suc g) (suc d) m k h l = elim (bit-of m k) [
 -- the next mark is no step back
 pub next-after : (n m k : ℕ) {r : ℕ} → r ≡ nextBelow n m k → k ≤ r
 next-after n m k e = let h = low-ge (marked m) (n - k) k in omega arith
+
+-- and where it is none of those after the end, it is marked
+pub next-marked : (n m k r : ℕ) → k ≤ n → r ≡ nextBelow n m k → r < n → marked m r ≡ true
+next-marked n m k r h q l = ap (marked m) q ∙ low-passes (marked m) (n - k) k (omega arith)
 
 -- ---- a mask of one bit tests it
 

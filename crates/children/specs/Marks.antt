@@ -1,6 +1,6 @@
 -- Marks of slots in a word of 64 bits. Only the marks below the number of slots n are counted, iterated or tested; the word may hold more.
 -- Assumes nothing: these are definitions.
-use mathlib.Core.Bool.{Bool, true, false, cond, _&&_}
+use mathlib.Core.Bool.{Bool, cond, _&&_}
 use Prim.Native.Nat.{ℕ, _-_, _/_, _%_, _^_}
 use lib.Bits.{bitAnd, bitOr}
 use lib.Dec.{ltb, eqb}

@@ -16,7 +16,8 @@ use Rattle.context.specs.declared.ContextType.{ContextType}
 use Rattle.context.specs.declared.ContextType.the-variants.{Normal, Simulation}
 use Rattle.context.specs.declared.Context.{Context}
 use Rattle.context.specs.declared.ActiveContextArgs.{ActiveContextArgs}
-use Rattle.context.specs.Bytes.{tciSize, byteOf, defaultHandle, invalidHandle}
+use Rattle.handle.specs.Handle.{defaultHandle, invalidHandle}
+use Rattle.context.specs.Bytes.{tciSize, byteOf}
 
 -- the parent of a context that has none
 abbrev pub noParent : ℕ

@@ -1,5 +1,4 @@
-// One context of the table: its types, and what is done to it. context.rs; the modules are its handle, its measurements (tci.rs) and boolean bytes.
-pub mod handle;
+// One context of the table: its types, and what is done to it. context.rs; the modules are its measurements (tci.rs) and boolean bytes.
 pub mod tci;
 pub mod u8bool;
 

@@ -29,7 +29,8 @@ use Rattle.walks_run.specs.Run.{runFrom, runIn}
 use Rattle.walks.proofs.Summary.{down-summary}
 use Rattle.walks_run.proofs.Summary.{run-summary}
 use Rattle.destroy_context.specs.declared.Destroyed.{Destroyed}
-use Rattle.destroy_context.specs.Destroy.{clearedBy, refusedBy, onDown, onRun, doomedOf, doomedIn, onDoomed, destroySlotOf, onFound, destroyOf}
+use Rattle.clearing.specs.Clearing.{clearedBy}
+use Rattle.destroy_context.specs.Destroy.{refusedBy, onDown, onRun, doomedOf, doomedIn, onDoomed, destroySlotOf, onFound, destroyOf}
 
 -- ---- the slots that go, over the links of all slots
 

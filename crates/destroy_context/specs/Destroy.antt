@@ -9,28 +9,19 @@ use Rattle.error.specs.declared.InternalErrorCode.the-variants.{ContextIndexOob
 use Rattle.error.specs.declared.Outcome.the-variants as outcome
 use Rattle.children.specs.declared.Answer.{Answer}
 use Rattle.children.specs.declared.Answer.the-variants.{Marks, Refused}
-use Rattle.children.specs.Below.{listOf}
-use Rattle.children.specs.Marks.{slotCount, marked, without}
+use Rattle.children.specs.Marks.{slotCount}
 use Rattle.context.specs.declared.Context.{Context}
 use Rattle.table.specs.declared.state.State.{State}
 use Rattle.table.specs.declared.state.Found.{Found}
 use Rattle.table.specs.declared.state.Found.the-variants as found
-use Rattle.context.specs.Context.{destroyed, withChildren, slotOf}
-use Rattle.table.specs.State.{withContexts}
+use Rattle.context.specs.Context.{slotOf}
+use Rattle.clearing.specs.Clearing.{clearedBy}
 use Rattle.forest.specs.Destroy.{doomedWord}
 use Rattle.lookup.specs.Lookup.{lookupIn}
 use Rattle.links.specs.Summary.{liveAt, retiredAt, parentAt, kidsAt}
 use Rattle.walks.specs.Walks.{downFrom}
 use Rattle.walks_run.specs.Run.{runFrom}
 use Rattle.destroy_context.specs.declared.Destroyed.{Destroyed}
-
--- the context c of slot i: cleared where the set has the slot, and else without the marks of the set, all 64 of them
-unfoldable pub clearedSlot : ℕ → ℕ → Context → Context
-clearedSlot set i c = cond (marked set i) (destroyed c) (withChildren c (without (c .children) set))
-
--- every slot so
-unfoldable pub clearedBy : State → ℕ → State
-clearedBy t set = withContexts t (listOf (λ i. clearedSlot set i (slotOf (t .contexts) i)) slotCount)
 
 -- a refusal: the table as it was
 abbrev pub refusedBy : State → DpeErrorCode → Destroyed

@@ -1,8 +1,6 @@
 // Destroy: a context goes, with all that is below it and the retired run above it. destroy_context.rs.
 use children::Answer;
 use children::MAX_HANDLES;
-use context::Context;
-use context::handle;
 use error::DpeErrorCode;
 use error::InternalErrorCode;
 use error::Outcome;
@@ -11,10 +9,9 @@ use table::state::Found;
 use table::state::State;
 use walks::descendants;
 ghost use mathlib.Core.Path.{_≡_};
-ghost use Prim.Native.Nat.{_<_};
 ghost use Rattle.children.specs.Marks.{slotCount, marked};
 ghost use Rattle.links.specs.Summary.{numberIn};
-ghost use Rattle.destroy_context.specs.Destroy.{clearedSlot, clearedBy, refusedBy, doomedOf, destroySlotOf, destroyOf};
+ghost use Rattle.destroy_context.specs.Destroy.{refusedBy, doomedOf, destroySlotOf, destroyOf};
 
 // How a destroy ended, and the table.
 pub struct Destroyed {
@@ -30,31 +27,6 @@ fn refused(t: State, e: DpeErrorCode) -> Destroyed
         answer: Outcome::Refused(e),
         state: t,
     }
-}
-
-// The context of slot i: cleared where the set has the slot, and else without the marks of the set.
-pub fn cleared_slot(c: Context, i: usize, set: u64) -> Context
-    requires { ⌜ i < slotCount ⌝ }
-    ensures { λ r. ⌜ r ≡ clearedSlot set i c ⌝ }
-{
-    if children::has_child(set, i) {
-        return c.destroy();
-    }
-    let children = children::remove_children(c.children, set);
-    Context { children, ..c }
-}
-
-// The table with the slots of a set cleared, and their marks taken from every slot.
-pub fn cleared(t: State, set: u64) -> State
-    ensures { λ r. ⌜ r ≡ clearedBy t set ⌝ }
-{
-    let mut u = t;
-    for i in 0..MAX_HANDLES {
-        let c = u.contexts[i];
-        let d = cleared_slot(c, i, set);
-        u.contexts[i] = d;
-    }
-    u
 }
 
 // The slots that go with a slot, as marks: itself, all that is below it, and the run above it. The walk up comes first.
@@ -90,7 +62,7 @@ pub fn destroy_slot(t: State, slot: usize) -> Destroyed
     };
     Destroyed {
         answer: Outcome::Done,
-        state: cleared(t, set),
+        state: clearing::cleared(t, set),
     }
 }
 

@@ -13,7 +13,6 @@ use Rattle.table.specs.declared.state.Found.{Found}
 use Rattle.table.specs.declared.state.Found.the-variants as found
 use Rattle.table.specs.declared.state.NewHandle.{NewHandle}
 use Rattle.destroy_context.specs.declared.Destroyed.{Destroyed}
-use Rattle.image_kinds.specs.Kinds.{first}
 use Rattle.duottarok.specs.Exports.{foundWord, foundPlace, marksWord, marksPlace, foundAfter, marksAfter, handleAfter, destroyAfter, handlePlace}
 
 -- ---- what a call says after reading: the reading's refusal, or its own answer
@@ -31,9 +30,6 @@ module _ (o : Outcome) (x : DpeErrorCode) (q : o ≡ Refused x) where
   pub unread-destroy : (t : State) (d : Destroyed) → destroyAfter o t d .answer ≡ Refused x
   unread-destroy t d = rw q
 
-  pub unread-outcome : (a : Outcome) → first o a ≡ Refused x
-  unread-outcome a = rw q
-
 module _ (o : Outcome) (q : o ≡ Done) where
   pub read-found : (f : Found) → foundAfter o f ≡ f
   read-found f = rw q
@@ -46,9 +42,6 @@ module _ (o : Outcome) (q : o ≡ Done) where
 
   pub read-destroy : (t : State) (d : Destroyed) → destroyAfter o t d ≡ d
   read-destroy t d = rw q
-
-  pub read-outcome : (a : Outcome) → first o a ≡ a
-  read-outcome a = rw q
 
 -- ---- a number, or a refusal
 

@@ -17,10 +17,8 @@ use Rattle.table.specs.declared.state.Found.the-variants as found
 use Rattle.table.specs.declared.state.NewHandle.{NewHandle}
 use Rattle.context.specs.Context.{slotOf}
 use Rattle.table.specs.State.{countIn, refusedOf}
-use Rattle.image_kinds.specs.Kinds.{first}
 use Rattle.image_context.specs.Context.{stateOf}
 use Rattle.image.specs.State.{decodeState, readableOf}
-use Rattle.verdict.specs.Tests.{verdictOf, outcomeOf}
 use Rattle.lookup.specs.Lookup.{lookupIn}
 use Rattle.initialize_context.specs.Initialize.{initializedOf}
 use Rattle.rotate_context.specs.Rotate.{rotatedOf}
@@ -73,10 +71,7 @@ abbrev pub destroyAfter : Outcome → State → Destroyed → Destroyed
 destroyAfter Done t d = d
 destroyAfter (Refused e) t d = refusedBy t e
 
--- ---- the calls
-
-abbrev pub validateAt : List ℕ → Outcome
-validateAt l = first (readableOf l) (outcomeOf (verdictOf (decodeState l)))
+-- ---- the calls; that of the validator stands in peek_validate/specs
 
 abbrev pub lookupAt : List ℕ → List ℕ → ℕ → Found
 lookupAt l h locality = foundAfter (readableOf l) (lookupIn slotCount (slotOf (decodeState l .contexts)) h locality)

@@ -1,7 +1,6 @@
 // The exported calls, over a lent image of 4,624 bytes, in place. include/duottarok.h says what each asks of its pointers.
 use children::Answer;
 use children::MAX_HANDLES;
-use context::handle;
 use error::DpeErrorCode;
 use error::Outcome;
 use image::state;
@@ -12,8 +11,9 @@ use table::state::Found;
 ghost use mathlib.Core.Path.{_≡_};
 ghost use Rattle.error.specs.Numbers.{wordOf};
 ghost use Rattle.walks_path.specs.Path.{slotsPlace};
+ghost use Rattle.peek_validate.specs.Validate.{validateAt};
 ghost use Rattle.place.specs.Place.{imageAfter, destroyedAfter};
-ghost use Rattle.duottarok.specs.Exports.{validateAt, foundWord, foundPlace, marksWord, marksPlace, handlePlace, lookupAt, initializeAt, rotateAt, destroyAt, descendantsAt, pathAt, lengthAt, countAt};
+ghost use Rattle.duottarok.specs.Exports.{foundWord, foundPlace, marksWord, marksPlace, handlePlace, lookupAt, initializeAt, rotateAt, destroyAt, descendantsAt, pathAt, lengthAt, countAt};
 
 fn wide(x: usize) -> u64
     ensures { λ r. ⌜ r ≡ x ⌝ }
@@ -33,10 +33,7 @@ fn refused(e: DpeErrorCode) -> u64
 pub extern "C" fn dpe_validate(image: &[u8]) -> u64
     ensures { λ r. ⌜ r ≡ wordOf (validateAt (now (image .entry))) ⌝ }
 {
-    if !state::is_readable(image) {
-        return error::word(state::readable(image));
-    }
-    error::word(validation::outcome(peek_validate::validate_dpe(image)))
+    error::word(peek_validate::validate_image(image))
 }
 
 // Finds the active context of a locality that has a handle.

@@ -3,7 +3,7 @@ use mathlib.Core.List.{map}
 use mathlib.Core.Path.{_≡_, refl}
 use Rattle.children.specs.Below.{count, some, every, lowestFrom, listOf}
 use Rattle.children.specs.Marks.{marked, hasBelow, withIf}
-use Rattle.context.specs.Bytes.{sameBytes}
+use Rattle.handle.specs.Handle.{sameBytes}
 use Rattle.table.specs.State.{freeIn}
 use Rattle.links.specs.Summary.{marksOf}
 use Rattle.forest.specs.Walk.{over, walkDown}
@@ -15,7 +15,8 @@ use Rattle.initialize_context.specs.Initialize.{initializedOf}
 use Rattle.forest.specs.Told.{toldOf}
 use Rattle.walks.specs.Walks.{descendantsIn}
 use Rattle.walks_run.specs.Run.{runFrom}
-use Rattle.destroy_context.specs.Destroy.{clearedSlot, clearedBy, onDown, onRun, doomedOf, onDoomed, destroySlotOf, onFound, destroyOf}
+use Rattle.clearing.specs.Clearing.{clearedSlot, clearedBy}
+use Rattle.destroy_context.specs.Destroy.{onDown, onRun, doomedOf, onDoomed, destroySlotOf, onFound, destroyOf}
 use Rattle.verdict.specs.Tests.{need, first, firstBelow, whereOf, isZeroTci, supportOf, inactiveOf, parentTest, childTest, linksTest, stateOf, contextOf, mixTest, localityOf, localitiesTest, foundFault, forestOf, verdict}
 use Rattle.examples.specs.Examples.{Example, resultOf, examples}
 

@@ -16,7 +16,7 @@ use Rattle.table.specs.declared.state.State.{State}
 use Rattle.table.specs.declared.state.Found.{Found}
 use Rattle.table.specs.declared.state.Found.the-variants as found
 use Rattle.table.specs.declared.state.NewHandle.{NewHandle}
-use Rattle.context.specs.Bytes.{handleSize}
+use Rattle.handle.specs.Handle.{handleSize}
 use Rattle.context.specs.Context.{noParent, newContext, slotOf}
 use Rattle.table.specs.State.{newState, withSlot, withInitialized}
 use Rattle.links.specs.Summary.{liveAt, kidsAt, marksOf}

@@ -17,7 +17,7 @@ use Rattle.wire.specs.Le.{part, put, le, leBytes, Bytes}
 use Rattle.wire.proofs.Part.{length-part}
 use Rattle.wire.proofs.Put.{length-put, put-all, part-put-own, part-put-other, getD-put-own, getD-put-other, part-put-in}
 use Rattle.wire.proofs.Le.{bytes-none, bytes-cons, bytes-append, bytes-put, bytes-leBytes, length-leBytes, le-leBytes}
-use Rattle.context.specs.Bytes.{handleSize}
+use Rattle.handle.specs.Handle.{handleSize}
 use Rattle.context.specs.Context.{slotOf, noContext, withHandle, withChildren}
 use Rattle.table.specs.State.{withSlot, withInitialized}
 use Rattle.context.specs.declared.tci.TciNodeData.{TciNodeData}

@@ -5,7 +5,8 @@ use mathlib.Core.List.{List}
 use Prim.Native.Nat.{ℕ, _^_, _<_}
 use lib.ListN.{length}
 use Rattle.wire.specs.Le.{Bytes}
-use Rattle.context.specs.Bytes.{handleSize, tciSize}
+use Rattle.handle.specs.Handle.{handleSize}
+use Rattle.context.specs.Bytes.{tciSize}
 use Rattle.context.specs.declared.tci.TciNodeData.{TciNodeData}
 use Rattle.context.specs.declared.Context.{Context}
 

@@ -20,7 +20,8 @@ use Rattle.table.specs.declared.state.Found.{Found}
 use Rattle.table.specs.declared.state.Found.the-variants.{At, Refused}
 use Rattle.table.specs.declared.state.NewHandle.{NewHandle}
 use Rattle.context.specs.declared.ContextType.the-variants.{Simulation}
-use Rattle.context.specs.Bytes.{isOn, defaultHandle}
+use Rattle.handle.specs.Handle.{defaultHandle}
+use Rattle.context.specs.Bytes.{isOn}
 use Rattle.table.specs.Flags.{simulationBit, initSimulationBit, initDefaultBit}
 use Rattle.context.specs.Context.{activeContext, slotOf}
 use Rattle.table.specs.State.{idleAt, freeIn, refusedOf, handedOf, withSlot}

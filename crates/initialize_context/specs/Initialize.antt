@@ -13,7 +13,8 @@ use Rattle.table.specs.declared.state.State.{State}
 use Rattle.table.specs.declared.state.Found.{Found}
 use Rattle.table.specs.declared.state.Found.the-variants as found
 use Rattle.table.specs.declared.state.NewHandle.{NewHandle}
-use Rattle.context.specs.Bytes.{isOn, defaultHandle}
+use Rattle.handle.specs.Handle.{defaultHandle}
+use Rattle.context.specs.Bytes.{isOn}
 use Rattle.table.specs.Flags.{simulationBit, initSimulationBit, initDefaultBit}
 use Rattle.context.specs.Context.{noParent, activeContext, slotOf}
 use Rattle.table.specs.State.{withSlot, withInitialized, refusedOf, handedOf, freeIn}

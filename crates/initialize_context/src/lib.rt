@@ -3,7 +3,6 @@ use context::ActiveContextArgs;
 use context::Context;
 use context::ContextType;
 use context::ROOT_INDEX;
-use context::handle;
 use context::u8bool;
 use error::DpeErrorCode;
 use error::Outcome;

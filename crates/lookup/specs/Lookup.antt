@@ -10,7 +10,7 @@ use Rattle.children.specs.Below.{some, lowest}
 use Rattle.context.specs.declared.Context.{Context}
 use Rattle.table.specs.declared.state.Found.{Found}
 use Rattle.table.specs.declared.state.Found.the-variants.{At, Refused}
-use Rattle.context.specs.Bytes.{sameBytes}
+use Rattle.handle.specs.Handle.{sameBytes}
 use Rattle.context.specs.Context.{isActive}
 
 -- a context that is active, of the locality l

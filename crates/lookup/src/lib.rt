@@ -2,7 +2,6 @@
 use children::MAX_HANDLES;
 use context::Context;
 use context::ContextState;
-use context::handle;
 use error::DpeErrorCode;
 use table::state::Found;
 use table::state::State;

@@ -12,7 +12,7 @@ use Rattle.wire.proofs.Part.{part-part, getD-part}
 use Rattle.context.specs.declared.Context.{Context}
 use Rattle.context.specs.Context.{slotOf, sameState}
 use Rattle.table.specs.State.{inState}
-use Rattle.context.specs.Bytes.{handleSize}
+use Rattle.handle.specs.Handle.{handleSize}
 use Rattle.image_kinds.specs.Kinds.{contextSize, stateByteIn}
 use Rattle.image_context.specs.Context.{stateOf, decodeContext}
 use Rattle.image.specs.State.{contextsAt, supportAt, slotBytes, slotIn, decodeState, readableOf}

@@ -3,7 +3,6 @@ use crate::slot;
 use candidates::Chosen;
 use candidates::MAX_NEW_HANDLE_ATTEMPTS;
 use children::MAX_HANDLES;
-use context::handle;
 use error::AddedErrorCode;
 use error::DpeErrorCode;
 use error::InternalErrorCode;

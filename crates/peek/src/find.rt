@@ -1,7 +1,6 @@
 // Slots looked for in a lent image, and counted. state.rs.
 use crate::slot;
 use children::MAX_HANDLES;
-use context::handle;
 use error::DpeErrorCode;
 use image::state::CONTEXTS_AT;
 use image_context::SIZE;

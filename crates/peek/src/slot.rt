@@ -1,7 +1,6 @@
 // One slot of a lent image.
 use context::Context;
 use context::ContextState;
-use context::handle;
 use image::state;
 ghost use mathlib.Core.Path.{_≡_};
 ghost use Prim.Native.Nat.{_<_};

@@ -3,6 +3,7 @@
 pub mod summary;
 
 use children::MAX_HANDLES;
+use error::Outcome;
 use error::ValidationError;
 use image::state;
 use peek::slot;
@@ -16,6 +17,7 @@ ghost use Rattle.context.specs.Context.{slotOf};
 ghost use Rattle.image.specs.State.{stateSize, decodeState};
 ghost use Rattle.verdict.specs.Tests.{headerOf, firstBelow, verdictOf};
 ghost use Rattle.validation_slots.specs.Summary.{slotIn};
+ghost use Rattle.peek_validate.specs.Validate.{validateAt};
 
 // Each slot of the image, upward.
 fn slots_test(
@@ -64,4 +66,14 @@ pub fn validate_dpe(image: &[u8]) -> Verdict
         return w;
     };
     validation_trees::trees_test(&children, &parents, l.live, l.simulations)
+}
+
+// What validating an image answers: why it does not read, or the verdict on its table.
+pub fn validate_image(image: &[u8]) -> Outcome
+    ensures { λ r. ⌜ r ≡ validateAt (now (image .entry)) ⌝ }
+{
+    if !state::is_readable(image) {
+        return state::readable(image);
+    }
+    validation::outcome(validate_dpe(image))
 }

@@ -1,6 +1,5 @@
 // The links and the places of a lent image, in one pass each.
 use children::MAX_HANDLES;
-use context::handle;
 use links::Links;
 use peek::slot;
 use validation_localities::Places;

@@ -10,7 +10,7 @@ use Rattle.error.specs.declared.DpeErrorCode.{DpeErrorCode}
 use Rattle.children.specs.declared.Answer.the-variants.{Refused}
 use Rattle.children.specs.Below.{lowestFrom}
 use Rattle.children.specs.Marks.{marked, with, joined, nextBelow}
-use Rattle.children.proofs.Below.{low-ge, low-le, low-bare, low-passes}
+use Rattle.children.proofs.Below.{low-ge, low-le, low-bare}
 use Rattle.children.proofs.Cases.{two}
 use Rattle.children.proofs.Marks.{joined-assoc}
 use Rattle.forest.specs.Walk.{Answer, loops, bad, ok, both, over, walkDown}
@@ -43,10 +43,6 @@ pub begins : (f : ℕ) (a : Answer) → f ≡ 0 → both (ok f) a ≡ a
 begins f a e = ap (λ (x : ℕ). both (ok x) a) e ∙ both-none-l a
 
 -- ---- the rest
-
--- the next one, where it is none of those after the end, is marked
-pub next-marked : (n m k r : ℕ) → k ≤ n → r ≡ nextBelow n m k → r < n → marked m r ≡ true
-next-marked n m k r h q l = ap (marked m) q ∙ low-passes (marked m) (n - k) k (omega arith)
 
 -- the answers for those of the g numbers from k on that are marked
 unfoldable pub rest : (ℕ → Answer) → ℕ → ℕ → ℕ → Answer

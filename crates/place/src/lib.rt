@@ -1,6 +1,5 @@
 // What every call writes with: one field or one slot of a lent image, written where it lies; all else stays. Added; the Rust has no image.
 use context::Context;
-use context::handle;
 use context::u8bool;
 use image::state;
 ghost use Prim.Native.Nat.{_<_};

@@ -14,7 +14,7 @@ use Rattle.table.specs.declared.state.State.{State}
 use Rattle.context.specs.Context.{noContext, slotOf, destroyed, withChildren}
 use Rattle.table.specs.State.{withContexts, withSlot}
 use Rattle.destroy_context.specs.declared.Destroyed.{Destroyed}
-use Rattle.destroy_context.specs.Destroy.{clearedSlot}
+use Rattle.clearing.specs.Clearing.{clearedSlot}
 use Rattle.image.specs.State.{slotIn, decodeState, encodeState}
 use Rattle.place.specs.Place.{destroyedAfter}
 

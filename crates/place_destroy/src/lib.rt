@@ -2,7 +2,6 @@
 // `destroy_context` has the name of the one by value, which says what it means.
 use children::Answer;
 use children::MAX_HANDLES;
-use context::handle;
 use error::Outcome;
 use peek::find;
 use peek::slot;
@@ -17,7 +16,8 @@ ghost use Rattle.children.specs.Marks.{slotCount};
 ghost use Rattle.context.specs.Context.{slotOf};
 ghost use Rattle.table.specs.State.{withSlot};
 ghost use Rattle.image.specs.State.{stateSize, decodeState, encodeState, readableOf};
-ghost use Rattle.destroy_context.specs.Destroy.{clearedSlot, clearedBy, doomedIn, destroyOf};
+ghost use Rattle.clearing.specs.Clearing.{clearedSlot, clearedBy};
+ghost use Rattle.destroy_context.specs.Destroy.{doomedIn, destroyOf};
 ghost use Rattle.place.specs.Place.{Holds, destroyedAfter};
 
 // The slot is cleared where the set has it, and else loses the marks of the set; marks that stay the same are not written.

@@ -2,7 +2,6 @@
 // `initialize_context` has the name of the one by value, which says what it means.
 use candidates::Chosen;
 use context::ContextType;
-use context::handle;
 use error::DpeErrorCode;
 use error::Outcome;
 use image::state;

@@ -9,7 +9,7 @@ use Rattle.error.specs.declared.Outcome.the-variants.{Done, Refused}
 use Rattle.children.specs.Marks.{slotCount, marked}
 use Rattle.table.specs.declared.state.State.{State}
 use Rattle.table.specs.declared.state.Found.the-variants.{At}
-use Rattle.context.specs.Bytes.{defaultHandle}
+use Rattle.handle.specs.Handle.{defaultHandle}
 use Rattle.table.specs.Flags.{rotateDefaultBit}
 use Rattle.context.specs.Context.{slotOf, withHandle}
 use Rattle.table.specs.State.{withSlot, refusedOf}

@@ -2,7 +2,6 @@
 // `rotate_context` has the name of the one by value, which says what it means.
 use candidates::Chosen;
 use children::MAX_HANDLES;
-use context::handle;
 use error::DpeErrorCode;
 use error::Outcome;
 use image::state;
@@ -18,7 +17,7 @@ ghost use mathlib.Core.Path.{_≡_};
 ghost use lib.ListN.{length};
 ghost use Rattle.error.specs.declared.Outcome.the-variants.{Done};
 ghost use Rattle.children.specs.Marks.{slotCount};
-ghost use Rattle.context.specs.Bytes.{isDefault};
+ghost use Rattle.handle.specs.Handle.{isDefault};
 ghost use Rattle.context.specs.Context.{slotOf};
 ghost use Rattle.table.specs.declared.state.Found.the-variants.{At};
 ghost use Rattle.image.specs.State.{stateSize, decodeState, readableOf};

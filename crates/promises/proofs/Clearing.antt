@@ -17,7 +17,7 @@ use Rattle.forest.specs.Links.{Linked, Rooted}
 use Rattle.forest.specs.Destroy.{clear, Doomed}
 use Rattle.forest.proofs.Slots.{clear-in, again}
 use Rattle.links.specs.Summary.{liveAt, retiredAt, parentAt, kidsAt, tableOf, Words}
-use Rattle.destroy_context.specs.Destroy.{clearedSlot}
+use Rattle.clearing.specs.Clearing.{clearedSlot}
 use Rattle.verdict.specs.Tests.{Header}
 use Rattle.verdict.specs.Rule.{Live, HasChild, ActiveIn, NormalRoot, ForestRule}
 use Rattle.verdict.proofs.Trees.{live-is, parent-is}

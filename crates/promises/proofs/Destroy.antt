@@ -26,7 +26,8 @@ use Rattle.lookup.specs.Lookup.{lookupIn}
 use Rattle.lookup.proofs.Lookup.{Target, found-iff, refused-by}
 use Rattle.forest.specs.Told.{toldOf}
 use Rattle.walks_run.specs.Run.{runFrom, runIn}
-use Rattle.destroy_context.specs.Destroy.{clearedSlot, clearedBy, destroyOf}
+use Rattle.clearing.specs.Clearing.{clearedSlot, clearedBy}
+use Rattle.destroy_context.specs.Destroy.{destroyOf}
 use Rattle.destroy_context.proofs.Calls.{both-walked, not-found, found-at}
 use Rattle.verdict.specs.Tests.{headerOf}
 use Rattle.verdict.specs.Rule.{Live, Forest}

@@ -20,7 +20,8 @@ use Rattle.context.specs.declared.ContextType.{ContextType}
 use Rattle.context.specs.declared.ContextType.the-variants.{Normal, Simulation}
 use Rattle.context.specs.declared.Context.{Context}
 use Rattle.table.specs.declared.state.State.{State}
-use Rattle.context.specs.Bytes.{isOn, defaultHandle}
+use Rattle.handle.specs.Handle.{defaultHandle}
+use Rattle.context.specs.Bytes.{isOn}
 use Rattle.table.specs.Flags.{simulationBit}
 use Rattle.context.specs.Context.{noParent, noContext, activeContext, isLive, isInactive, isRetired, slotOf}
 use Rattle.forest.specs.Links.{Table, Linked, Rooted}

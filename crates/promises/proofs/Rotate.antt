@@ -11,7 +11,7 @@ use Rattle.children.specs.Marks.{slotCount, markCount}
 use Rattle.children.proofs.Cases.{and-both}
 use Rattle.context.specs.declared.Context.{Context}
 use Rattle.table.specs.declared.state.State.{State}
-use Rattle.context.specs.Bytes.{defaultHandle}
+use Rattle.handle.specs.Handle.{defaultHandle}
 use Rattle.context.specs.Context.{withHandle, noContext, isActive, slotOf}
 use Rattle.table.specs.State.{withSlot}
 use Rattle.rotate_context.specs.Rotate.{rotatedOf}

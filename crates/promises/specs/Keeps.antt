@@ -15,7 +15,7 @@ use Rattle.context.specs.declared.ContextState.the-variants.{Retired}
 use Rattle.context.specs.declared.Context.{Context}
 use Rattle.table.specs.declared.state.State.{State}
 use Rattle.table.specs.declared.state.Found.the-variants as found
-use Rattle.context.specs.Bytes.{defaultHandle}
+use Rattle.handle.specs.Handle.{defaultHandle}
 use Rattle.context.specs.Context.{noParent, destroyed, withChildren, slotOf}
 use Rattle.lookup.specs.Lookup.{lookupIn}
 use Rattle.walks_path.specs.declared.Path.{Path}

@@ -18,7 +18,7 @@ use Rattle.table.specs.declared.state.State.{State}
 use Rattle.table.specs.declared.state.Found.{Found}
 use Rattle.table.specs.declared.state.Found.the-variants.{At, Refused}
 use Rattle.table.specs.declared.state.NewHandle.{NewHandle}
-use Rattle.context.specs.Bytes.{isDefault, defaultHandle}
+use Rattle.handle.specs.Handle.{isDefault, defaultHandle}
 use Rattle.table.specs.Flags.{rotateBit, rotateDefaultBit}
 use Rattle.context.specs.Context.{slotOf}
 use Rattle.table.specs.State.{refusedOf}

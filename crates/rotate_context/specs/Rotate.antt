@@ -14,7 +14,7 @@ use Rattle.table.specs.declared.state.State.{State}
 use Rattle.table.specs.declared.state.Found.{Found}
 use Rattle.table.specs.declared.state.Found.the-variants as found
 use Rattle.table.specs.declared.state.NewHandle.{NewHandle}
-use Rattle.context.specs.Bytes.{isDefault, defaultHandle}
+use Rattle.handle.specs.Handle.{isDefault, defaultHandle}
 use Rattle.table.specs.Flags.{rotateBit, rotateDefaultBit}
 use Rattle.context.specs.Context.{withHandle, slotOf}
 use Rattle.table.specs.State.{withSlot, refusedOf, handedOf}

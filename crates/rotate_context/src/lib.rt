@@ -1,7 +1,6 @@
 // Rotate the handle of a context. rotate_context.rs.
 use children::MAX_HANDLES;
 use context::Context;
-use context::handle;
 use error::DpeErrorCode;
 use error::Outcome;
 use table::flags;
@@ -14,7 +13,7 @@ ghost use mathlib.Core.Path.{_≡_};
 ghost use mathlib.Core.Bool.{not, _&&_, _||_};
 ghost use Prim.Native.Nat.{_<_};
 ghost use Rattle.children.specs.Marks.{slotCount};
-ghost use Rattle.context.specs.Bytes.{isDefault};
+ghost use Rattle.handle.specs.Handle.{isDefault};
 ghost use Rattle.context.specs.Context.{slotOf};
 ghost use Rattle.lookup.specs.Lookup.{activeOf};
 ghost use Rattle.rotate_context.specs.Rotate.{occupied, rotatedTo, toDefault, toCandidate, rotatedOf};

@@ -4,7 +4,6 @@ use context::ActiveContextArgs;
 use context::Context;
 use context::ContextState;
 use context::ContextType;
-use context::handle;
 use libc::STDOUT_FILENO;
 use table::state;
 use table::state::State;

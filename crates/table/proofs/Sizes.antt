@@ -11,7 +11,8 @@ use denote.Shadow.{shadow}
 use denote.Array.{each}
 use denote.Struct.Laws.{owed}
 use Rattle.children.specs.Marks.{slotCount}
-use Rattle.context.specs.Bytes.{handleSize, tciSize}
+use Rattle.handle.specs.Handle.{handleSize}
+use Rattle.context.specs.Bytes.{tciSize}
 use Rattle.context.specs.Context.{slotOf}
 use Rattle.context.specs.declared.Context.{Context}
 use Rattle.table.specs.declared.state.State.{State}

@@ -16,7 +16,7 @@ use Rattle.table.specs.declared.state.State.{State}
 use Rattle.table.specs.declared.state.Found.{Found}
 use Rattle.table.specs.declared.state.Found.the-variants.{At, Refused}
 use Rattle.table.specs.declared.state.NewHandle.{NewHandle}
-use Rattle.context.specs.Bytes.{defaultHandle}
+use Rattle.handle.specs.Handle.{defaultHandle}
 use Rattle.context.specs.Context.{newContext, sameState, isInactive}
 
 -- the marker and the version that a table must have

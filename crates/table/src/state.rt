@@ -2,7 +2,6 @@
 use children::MAX_HANDLES;
 use context::Context;
 use context::ContextState;
-use context::handle;
 use error::DpeErrorCode;
 use error::Outcome;
 ghost use mathlib.Core.Path.{_≡_};

@@ -9,7 +9,7 @@ use Rattle.children.specs.Below.{count}
 use Rattle.children.specs.Marks.{marked}
 use Rattle.context.specs.declared.ContextType.the-variants.{Normal}
 use Rattle.table.specs.declared.state.State.{State}
-use Rattle.context.specs.Bytes.{defaultHandle}
+use Rattle.handle.specs.Handle.{defaultHandle}
 use Rattle.context.specs.Context.{activeContext, noParent, slotOf}
 use Rattle.table.specs.State.{newState, withSlot}
 use Rattle.text_row.specs.Row.{decimalFrom, decimalOf, numberThen, verdictLine, rowOf}

@@ -27,7 +27,7 @@ use Rattle.image.proofs.RoundTrip.{state-again, write-read}
 use Rattle.verdict.specs.Tests.{verdictOf, outcomeOf}
 use Rattle.view.specs.declared.SlotFields.{SlotFields}
 use Rattle.view.specs.View.{fieldsOf}
-use Rattle.duottarok.specs.Exports.{validateAt}
+use Rattle.peek_validate.specs.Validate.{validateAt}
 use Rattle.text_row.specs.Row.{verdictLine, rowOf, PutAt}
 use Rattle.text_row.proofs.Row.{put-size}
 use Rattle.text.specs.Text.{outerNumber, innerNumber, lineOf, rowsTo, linesFor, textOf, listingOf}

@@ -11,7 +11,7 @@ use Rattle.context.specs.Context.{slotOf, isInactive}
 use Rattle.image.specs.State.{decodeState}
 use Rattle.view.specs.declared.SlotFields.{SlotFields}
 use Rattle.view.specs.View.{fieldsOf}
-use Rattle.duottarok.specs.Exports.{validateAt}
+use Rattle.peek_validate.specs.Validate.{validateAt}
 use Rattle.text_row.specs.Row.{verdictLine, rowOf}
 
 -- ---- lines

@@ -64,7 +64,7 @@ pub fn list(image: &[u8], out: &mut [u8; LISTING_SIZE]) -> usize
     ensures { λ _. ⌜ now (out .exit) ≡ put 0 (listingOf (now (image .entry))) (now (out .entry)) ⌝ }
     ensures { λ r. ⌜ Counts r (now (out .exit)) ⌝ }
 {
-    let word = duottarok::dpe_validate(image);
+    let word = error::word(peek_validate::validate_image(image));
     let a = text_row::put_verdict(out, high_half(word), low_half(word));
     if word != 0 {
         return a;

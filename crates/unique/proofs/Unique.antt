@@ -31,10 +31,10 @@ use Rattle.context.proofs.is_normal.Reads as context-is-normal-reads
 use Rattle.table.proofs.flags.flag_is_simulation.Reads as table-flags-flag-is-simulation-reads
 use Rattle.table.proofs.flags.flag_is_default.Reads as table-flags-flag-is-default-reads
 use Rattle.table.proofs.flags.uses_target_is_default.Reads as table-flags-uses-target-is-default-reads
-use Rattle.context.proofs.handle.default.Reads as context-handle-default-reads
-use Rattle.context.proofs.handle.new_invalid.Reads as context-handle-new-invalid-reads
-use Rattle.context.proofs.handle.equals.Reads as context-handle-equals-reads
-use Rattle.context.proofs.handle.is_default.Reads as context-handle-is-default-reads
+use Rattle.handle.proofs.default.Reads as handle-default-reads
+use Rattle.handle.proofs.new_invalid.Reads as handle-new-invalid-reads
+use Rattle.handle.proofs.equals.Reads as handle-equals-reads
+use Rattle.handle.proofs.is_default.Reads as handle-is-default-reads
 use Rattle.table.proofs.state.State.new.Reads as table-state-state-new-reads
 use Rattle.table.proofs.state.with_context.Reads as table-state-with-context-reads
 use Rattle.table.proofs.state.with_initialized.Reads as table-state-with-initialized-reads
@@ -98,8 +98,8 @@ use Rattle.validation_localities.proofs.localities_test.Reads as validation-loc
 use Rattle.validation_slots.proofs.context_test.Reads as validation-slots-context-test-reads
 use Rattle.validation_slots.proofs.slots_test.Reads as validation-slots-slots-test-reads
 use Rattle.validation_trees.proofs.trees_test.Reads as validation-trees-trees-test-reads
-use Rattle.destroy_context.proofs.cleared_slot.Reads as destroy-context-cleared-slot-reads
-use Rattle.destroy_context.proofs.cleared.Reads as destroy-context-cleared-reads
+use Rattle.clearing.proofs.cleared_slot.Reads as clearing-cleared-slot-reads
+use Rattle.clearing.proofs.cleared.Reads as clearing-cleared-reads
 use Rattle.destroy_context.proofs.destroy_slot.Reads as destroy-context-destroy-slot-reads
 use Rattle.destroy_context.proofs.destroy_context.Reads as destroy-context-destroy-context-reads
 use Rattle.view.proofs.fields_at.Reads as view-fields-at-reads
@@ -121,6 +121,7 @@ use Rattle.peek_walks.proofs.down.get_descendants.Reads as peek-down-get-descen
 use Rattle.peek_walks.proofs.path.root_to_leaf.Reads as peek-path-root-to-leaf-reads
 use Rattle.peek_walks.proofs.up.run_above.Reads as peek-up-run-above-reads
 use Rattle.peek_validate.proofs.validate_dpe.Reads as peek-validate-validate-dpe-reads
+use Rattle.peek_validate.proofs.validate_image.Reads as peek-validate-validate-image-reads
 use Rattle.place_initialize.proofs.initialize_context.Reads as place-initialize-initialize-context-reads
 use Rattle.place_rotate.proofs.rotate_context.Reads as place-rotate-rotate-context-reads
 use Rattle.place_destroy.proofs.destroy_context.Reads as place-destroy-destroy-context-reads
@@ -232,17 +233,17 @@ table-flags-flag-is-default κ a r r′ s s′ = one
 pub table-flags-uses-target-is-default : OneResult table-flags-uses-target-is-default-reads.Post
 table-flags-uses-target-is-default κ a r r′ s s′ = one
 
-pub context-handle-default : OneResult context-handle-default-reads.Post
-context-handle-default κ a r r′ s s′ = one
+pub handle-default : OneResult handle-default-reads.Post
+handle-default κ a r r′ s s′ = one
 
-pub context-handle-new-invalid : OneResult context-handle-new-invalid-reads.Post
-context-handle-new-invalid κ a r r′ s s′ = one
+pub handle-new-invalid : OneResult handle-new-invalid-reads.Post
+handle-new-invalid κ a r r′ s s′ = one
 
-pub context-handle-equals : OneResult context-handle-equals-reads.Post
-context-handle-equals κ a r r′ s s′ = one
+pub handle-equals : OneResult handle-equals-reads.Post
+handle-equals κ a r r′ s s′ = one
 
-pub context-handle-is-default : OneResult context-handle-is-default-reads.Post
-context-handle-is-default κ a r r′ s s′ = one
+pub handle-is-default : OneResult handle-is-default-reads.Post
+handle-is-default κ a r r′ s s′ = one
 
 pub table-state-state-new : OneResult table-state-state-new-reads.Post
 table-state-state-new κ a r r′ s s′ = one
@@ -427,11 +428,11 @@ validation-slots-slots-test κ a r r′ s s′ = one
 pub validation-trees-trees-test : OneResult validation-trees-trees-test-reads.Post
 validation-trees-trees-test κ a r r′ s s′ = one
 
-pub destroy-context-cleared-slot : OneResult destroy-context-cleared-slot-reads.Post
-destroy-context-cleared-slot κ a r r′ s s′ = one
+pub clearing-cleared-slot : OneResult clearing-cleared-slot-reads.Post
+clearing-cleared-slot κ a r r′ s s′ = one
 
-pub destroy-context-cleared : OneResult destroy-context-cleared-reads.Post
-destroy-context-cleared κ a r r′ s s′ = one
+pub clearing-cleared : OneResult clearing-cleared-reads.Post
+clearing-cleared κ a r r′ s s′ = one
 
 pub destroy-context-destroy-slot : OneResult destroy-context-destroy-slot-reads.Post
 destroy-context-destroy-slot κ a r r′ s s′ = one
@@ -495,6 +496,9 @@ peek-up-run-above κ a r r′ s s′ = one
 
 pub peek-validate-validate-dpe : OneResult peek-validate-validate-dpe-reads.Post
 peek-validate-validate-dpe κ a r r′ s s′ = one
+
+pub peek-validate-validate-image : OneResult peek-validate-validate-image-reads.Post
+peek-validate-validate-image κ a r r′ s s′ = one
 
 pub place-initialize-initialize-context : (κ : _) (a : _) (r r′ : _) (s s′ : _) → place-initialize-initialize-context-reads.Post κ a r s → place-initialize-initialize-context-reads.Post κ a r′ s′ → (r ≡ r′) × (now (s .0) ≡ now (s′ .0))
 place-initialize-initialize-context κ a r r′ s s′ p q = (one (p .0) (q .0), one (p .1) (q .1))

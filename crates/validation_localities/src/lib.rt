@@ -1,6 +1,5 @@
 // The validator's tests of the localities. validation.rs.
 use children::MAX_HANDLES;
-use context::handle;
 use error::ValidationError;
 use table::state::State;
 use verdict::Verdict;

@@ -14,8 +14,8 @@ use Rattle.error.specs.declared.ValidationError.the-variants.{MultipleNormalCon
 use Rattle.children.specs.Below.{count, every}
 use Rattle.children.specs.Marks.{slotCount, markCount, marked, with, without, countBelow, nextBelow}
 use Rattle.children.proofs.Cases.{two, clash}
-use Rattle.children.proofs.Below.{low-ge, low-le, low-bare, low-passes, count-none, count-some, every-at, at-every}
-use Rattle.children.proofs.Marks.{marked-without}
+use Rattle.children.proofs.Below.{low-ge, low-le, low-bare, count-none, count-some, every-at, at-every}
+use Rattle.children.proofs.Marks.{marked-without, next-marked}
 use Rattle.context.specs.Context.{noParent}
 use Rattle.forest.specs.Links.{Table}
 use Rattle.forest.specs.Search.{Verdict, cycles, mixed, fine, andThen, each, visit, isRoot, searchRoots, normalRoot, lastTests, judge, findFault}
@@ -86,7 +86,7 @@ module _ (rec : ℕ → ℕ → Verdict) (m : ℕ → Bool) (z : ℕ) where
       let le = low-le (marked kids) (n - k) k in (
         omega arith,
         ap (each rec m z) q ∙ skip k (nextBelow n kids k) w ge (λ j a b. f j (omega arith) ∙ low-bare (marked kids) (n - k) k j a b) e,
-        λ l. f r l ∙ ap (marked kids) q ∙ low-passes (marked kids) (n - k) k (omega arith),
+        λ l. f r l ∙ next-marked n kids k r h q l,
       )
 
 -- ---- at a slot

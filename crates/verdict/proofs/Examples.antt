@@ -6,7 +6,7 @@ use lib.ListN.{replicate}
 use Rattle.children.specs.Below.{count, every}
 use Rattle.children.specs.Marks.{slotCount, marked}
 use Rattle.context.specs.declared.Context.{Context}
-use Rattle.context.specs.Bytes.{sameBytes}
+use Rattle.handle.specs.Handle.{sameBytes}
 use Rattle.context.specs.Context.{newContext, slotOf}
 use Rattle.table.specs.State.{newState}
 use Rattle.forest.specs.Search.{each, visit, searchRoots, lastTests, judge, findFault}

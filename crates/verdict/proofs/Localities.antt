@@ -11,7 +11,7 @@ use Rattle.children.proofs.Below.{count-some, count-pos, count-one, count-more}
 use Rattle.context.specs.declared.ContextState.{ContextState}
 use Rattle.context.specs.declared.ContextState.the-variants.{Inactive, Active, Retired}
 use Rattle.context.specs.declared.Context.{Context}
-use Rattle.context.specs.Bytes.{isDefault, defaultHandle}
+use Rattle.handle.specs.Handle.{isDefault, defaultHandle}
 use Rattle.context.specs.Context.{isActive}
 use Rattle.context.proofs.Bytes.{same-iff}
 use Rattle.verdict.specs.declared.Verdict.the-variants.{Valid}

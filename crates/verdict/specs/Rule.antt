@@ -10,7 +10,7 @@ use Rattle.context.specs.declared.ContextState.the-variants.{Inactive, Active, 
 use Rattle.context.specs.declared.ContextType.the-variants.{Normal, Simulation}
 use Rattle.context.specs.declared.Context.{Context}
 use Rattle.table.specs.declared.state.State.{State}
-use Rattle.context.specs.Bytes.{defaultHandle}
+use Rattle.handle.specs.Handle.{defaultHandle}
 use Rattle.table.specs.Flags.{simulationBit, x509Bit, infoBit, diceBit}
 use Rattle.context.specs.Context.{noParent, zeroTci, slotOf}
 use Rattle.table.specs.State.{magic, versionNumber}

@@ -16,7 +16,8 @@ use Rattle.context.specs.declared.ContextState.the-variants.{Inactive, Active, 
 use Rattle.context.specs.declared.tci.TciNodeData.{TciNodeData}
 use Rattle.context.specs.declared.Context.{Context}
 use Rattle.table.specs.declared.state.State.{State}
-use Rattle.context.specs.Bytes.{tciSize, sameBytes, isOn, byteOf, isDefault}
+use Rattle.handle.specs.Handle.{sameBytes, isDefault}
+use Rattle.context.specs.Bytes.{tciSize, isOn, byteOf}
 use Rattle.table.specs.Flags.{simulationBit, x509Bit, infoBit, diceBit}
 use Rattle.context.specs.Context.{noParent, isActive, isNormal, slotOf}
 use Rattle.table.specs.State.{magic, versionNumber}

@@ -10,8 +10,9 @@ use Rattle.error.specs.declared.DpeErrorCode.{DpeErrorCode}
 use Rattle.children.specs.declared.Answer.the-variants.{Marks, Refused}
 use Rattle.children.specs.Below.{lowestFrom}
 use Rattle.children.specs.Marks.{marked, with, joined, nextBelow}
-use Rattle.children.proofs.Below.{low-ge, low-le, low-bare, low-passes}
+use Rattle.children.proofs.Below.{low-ge, low-le, low-bare}
 use Rattle.children.proofs.Cases.{two}
+use Rattle.children.proofs.Marks.{next-marked}
 use Rattle.forest.specs.Walk.{Answer, loops, bad, ok, both, over, walkDown}
 use Rattle.forest.specs.Told.{toldOf}
 
@@ -73,7 +74,7 @@ module _ (rec : ℕ → Answer) (m : ℕ) where
       let le = low-le (marked m) (n - k) k in (
         omega arith,
         ap (over rec m) q ∙ skip k (lowestFrom (marked m) (n - k) k) w ge (low-bare (marked m) (n - k) k) e,
-        λ l. ap (marked m) q ∙ low-passes (marked m) (n - k) k (omega arith),
+        next-marked n m k r h q,
       )
 
 -- ---- at a slot

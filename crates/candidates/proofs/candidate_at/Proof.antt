@@ -5,7 +5,7 @@ use native.Mathlib.Omega.{arith}
 use borrow.Author.Needs.{needs}
 use lib.ListN.{length, take, drop, length-set}
 use lib.Seq.{take-all}
-use Rattle.context.specs.Bytes.{handleSize}
+use Rattle.handle.specs.Handle.{handleSize}
 use Rattle.candidates.proofs.Candidates.{copy-next}
 use Rattle.candidates.proofs.candidate_at.Statement.{statement}
 use Rattle.candidates.proofs.candidate_at.Tie as tie

@@ -9,7 +9,7 @@ use Rattle.children.specs.Below.{some, lowestFrom, lowest}
 use Rattle.children.specs.Marks.{slotCount}
 use Rattle.children.proofs.Cases.{or-none}
 use Rattle.children.proofs.Below.{some-next, some-of}
-use Rattle.context.specs.Bytes.{handleSize}
+use Rattle.handle.specs.Handle.{handleSize}
 use Rattle.context.specs.Context.{slotOf}
 use Rattle.candidates.specs.Candidates.{attempts, hasHandle, usableAt}
 use Rattle.candidates.proofs.Candidates.{unusable-default, unusable-held, usable-free, turn-short, turn-on, turn-taken, turn-end}

@@ -7,7 +7,6 @@ use native.Mathlib.Omega.{arith}
 use lib.Bits.{bitOr}
 use lib.Dec.{lit<}
 use lib.Pow.{shl-exact}
-use Rattle.children.specs.Marks.{with}
 use Rattle.children.proofs.with.Statement.{statement}
 use Rattle.children.proofs.with.Tie as tie
 

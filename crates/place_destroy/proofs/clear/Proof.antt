@@ -10,8 +10,8 @@ use Rattle.context.specs.Context.{slotOf}
 use Rattle.table.specs.State.{withContexts}
 use Rattle.image.specs.State.{decodeState}
 use Rattle.image.proofs.Reading.{readable-size}
-use Rattle.destroy_context.specs.Destroy.{clearedSlot, clearedBy}
-use Rattle.destroy_context.proofs.Clearing.{mix, mix-end, slot-step}
+use Rattle.clearing.specs.Clearing.{clearedSlot, clearedBy}
+use Rattle.clearing.proofs.Clearing.{mix, mix-end, slot-step}
 use Rattle.place.specs.Place.{Holds}
 use Rattle.place.proofs.After.{bytes-known, held}
 use Rattle.place_destroy.proofs.Cleared.{table-slots}

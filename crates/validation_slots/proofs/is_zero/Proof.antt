@@ -8,8 +8,9 @@ use borrow.Author.Needs.{needs}
 use lib.Dec.{eqb}
 use lib.ListN.{take, getD, replicate}
 use lib.Seq.{take-all}
-use Rattle.context.specs.Bytes.{tciSize, sameBytes}
-use Rattle.context.proofs.Bytes.{same-next}
+use Rattle.handle.specs.Handle.{sameBytes}
+use Rattle.context.specs.Bytes.{tciSize}
+use Rattle.handle.proofs.Bytes.{same-next}
 use Rattle.validation_slots.proofs.is_zero.Statement.{statement}
 use Rattle.validation_slots.proofs.is_zero.Tie as tie
 

@@ -10,7 +10,7 @@ use Rattle.children.specs.Below.{some, lowestFrom, lowest}
 use Rattle.children.specs.Marks.{slotCount}
 use Rattle.children.proofs.Cases.{or-none}
 use Rattle.children.proofs.Below.{some-next, some-of}
-use Rattle.context.specs.Bytes.{handleSize, sameBytes}
+use Rattle.handle.specs.Handle.{handleSize, sameBytes}
 use Rattle.context.specs.Context.{slotOf}
 use Rattle.image.specs.State.{decodeState}
 use Rattle.candidates.specs.Candidates.{attempts, hasHandle, usableAt}

@@ -8,7 +8,7 @@ use Rattle.children.specs.Below.{some, lowestFrom, lowest}
 use Rattle.children.specs.Marks.{slotCount}
 use Rattle.children.proofs.Cases.{cases, and-both, and-left, and-right, or-right}
 use Rattle.children.proofs.Below.{low-here, low-on, low-end, some-next}
-use Rattle.context.specs.Bytes.{sameBytes}
+use Rattle.handle.specs.Handle.{sameBytes}
 use Rattle.context.specs.Context.{slotOf}
 use Rattle.image.specs.State.{decodeState}
 use Rattle.lookup.specs.Lookup.{activeIn, isTarget}

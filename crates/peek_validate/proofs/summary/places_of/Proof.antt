@@ -9,7 +9,7 @@ use lib.ListN.{length, take, length-set}
 use Rattle.children.specs.Below.{listOf}
 use Rattle.children.specs.Marks.{slotCount}
 use Rattle.children.proofs.Below.{listOf-fill}
-use Rattle.context.specs.Bytes.{isDefault}
+use Rattle.handle.specs.Handle.{isDefault}
 use Rattle.context.specs.Context.{slotOf, isActive}
 use Rattle.image.specs.State.{decodeState}
 use Rattle.links.specs.Summary.{marksOf}

@@ -18,7 +18,7 @@ use Rattle.forest.specs.Walk.{Answer, ok, both, walkDown}
 use Rattle.links.specs.Summary.{liveAt, kidsAt}
 use Rattle.forest.specs.Told.{toldOf}
 use Rattle.walks.proofs.Down.{child, on-path, off-path, told-marks, walk-spent, walk-inactive}
-use Rattle.peek_walks.proofs.Rest.{begins, rest, next-marked, rest-on, rest-none, rest-last, refused-on, rest-begins}
+use Rattle.peek_walks.proofs.Rest.{begins, rest, rest-on, rest-none, rest-last, refused-on, rest-begins}
 use Rattle.peek_walks.proofs.down.descend.Reads as descend
 use Rattle.peek_walks.proofs.down.descend.Kinds as descend-kinds
 use Rattle.peek_walks.proofs.down.+descend.Lts-descend as descend-lts
@@ -27,7 +27,7 @@ use Rattle.children.proofs.empty.Reads as empty-reads
 use Rattle.children.proofs.has_child.Reads as has-child-reads
 use Rattle.children.proofs.next.Reads as next-reads
 use Rattle.children.proofs.with.Reads as with-reads
-use Rattle.children.proofs.Marks.{seen, next-after}
+use Rattle.children.proofs.Marks.{seen, next-after, next-marked}
 use Rattle.peek.proofs.slot.children_at.Reads as children-at-reads
 use Rattle.peek.proofs.slot.is_live.Reads as is-live-reads
 use Rattle.peek_walks.proofs.down.+descend.{statement}

@@ -1,6 +1,6 @@
 // The handle of a context, 16 bytes. `ContextHandle` of context.rs.
 ghost use mathlib.Core.Path.{_≡_};
-ghost use Rattle.context.specs.Bytes.{sameBytes, isDefault, defaultHandle, invalidHandle};
+ghost use Rattle.handle.specs.Handle.{sameBytes, isDefault, defaultHandle, invalidHandle};
 
 pub const SIZE: usize = 16;
 

@@ -1,9 +1,9 @@
--- `context::handle::is_default` meets its contract. Assumes nothing.
+-- `handle::is_default` meets its contract. Assumes nothing.
 use mathlib.Core.Path.{ap, _∙_}
-use Rattle.context.specs.Bytes.{sameBytes}
+use Rattle.handle.specs.Handle.{sameBytes}
 use borrow.Author.Needs.{needs}
-use Rattle.context.proofs.handle.is_default.Statement.{statement}
-use Rattle.context.proofs.handle.is_default.Tie as tie
+use Rattle.handle.proofs.is_default.Statement.{statement}
+use Rattle.handle.proofs.is_default.Tie as tie
 
 default-requires : tie.Need-default-requires
 default-requires c κs = search needs

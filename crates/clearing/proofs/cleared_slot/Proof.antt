@@ -1,12 +1,12 @@
--- `destroy_context::cleared_slot` meets its contract. Assumes nothing.
+-- `clearing::cleared_slot` meets its contract. Assumes nothing.
 use mathlib.Core.Path.{sym, ap, _∙_}
 use Rattle.children.specs.Marks.{slotCount}
 use Rattle.children.proofs.Marks.{seen}
 use Rattle.context.specs.Context.{withChildren}
-use Rattle.destroy_context.specs.Destroy.{clearedSlot}
+use Rattle.clearing.specs.Clearing.{clearedSlot}
 use borrow.Author.Needs.{needs}
-use Rattle.destroy_context.proofs.cleared_slot.Statement.{statement}
-use Rattle.destroy_context.proofs.cleared_slot.Tie as tie
+use Rattle.clearing.proofs.cleared_slot.Statement.{statement}
+use Rattle.clearing.proofs.cleared_slot.Tie as tie
 
 has-child-requires : tie.Need-has-child-requires
 has-child-requires c κs = search needs

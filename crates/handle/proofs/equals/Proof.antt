@@ -1,4 +1,4 @@
--- `context::handle::equals` meets its contract. Assumes nothing.
+-- `handle::equals` meets its contract. Assumes nothing.
 use mathlib.Core.Bool.{Bool, _&&_}
 use mathlib.Core.Path.{_≡_, refl, sym, ap, ap₂, _∙_}
 use Prim.Native.Nat.{_≤_, _-_}
@@ -7,10 +7,10 @@ use borrow.Author.Needs.{needs}
 use lib.Dec.{eqb}
 use lib.ListN.{take, getD}
 use lib.Seq.{take-all}
-use Rattle.context.specs.Bytes.{handleSize, sameBytes}
-use Rattle.context.proofs.Bytes.{same-next}
-use Rattle.context.proofs.handle.equals.Statement.{statement}
-use Rattle.context.proofs.handle.equals.Tie as tie
+use Rattle.handle.specs.Handle.{handleSize, sameBytes}
+use Rattle.handle.proofs.Bytes.{same-next}
+use Rattle.handle.proofs.equals.Statement.{statement}
+use Rattle.handle.proofs.equals.Tie as tie
 
 abbrev Inv-loop : tie.InvT-loop
 Inv-loop a b same₀ i₀ same i = (i ≤ handleSize) × (same ≡ sameBytes (take i a) (take i b))

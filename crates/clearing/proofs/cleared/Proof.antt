@@ -1,4 +1,4 @@
--- `destroy_context::cleared` meets its contract. Assumes nothing.
+-- `clearing::cleared` meets its contract. Assumes nothing.
 use mathlib.Core.Path.{_≡_, refl, ap, _∙_}
 use Prim.Native.Nat.{_≤_, _-_}
 use native.Mathlib.Omega.{arith}
@@ -8,10 +8,10 @@ use Rattle.children.specs.Marks.{slotCount}
 use Rattle.context.specs.Context.{slotOf}
 use Rattle.table.specs.State.{withContexts}
 use Rattle.table.proofs.Sizes.{slots}
-use Rattle.destroy_context.specs.Destroy.{clearedSlot, clearedBy}
-use Rattle.destroy_context.proofs.Clearing.{mix, mix-end, slot-step}
-use Rattle.destroy_context.proofs.cleared.Statement.{statement}
-use Rattle.destroy_context.proofs.cleared.Tie as tie
+use Rattle.clearing.specs.Clearing.{clearedSlot, clearedBy}
+use Rattle.clearing.proofs.Clearing.{mix, mix-end, slot-step}
+use Rattle.clearing.proofs.cleared.Statement.{statement}
+use Rattle.clearing.proofs.cleared.Tie as tie
 
 abbrev Inv-loop : tie.InvT-loop
 Inv-loop set u₀ i₀ u i = (i ≤ slotCount) × (u ≡ withContexts u₀ (mix (clearedSlot set) i (u₀ .contexts)))

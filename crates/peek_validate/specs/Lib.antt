@@ -1,0 +1,2 @@
+-- What the contracts of peek_validate, and of the crates above it, cite.
+pub mod Validate
