@@ -52,20 +52,21 @@ module _ (f : Found) (w old : ℕ) where
   pub found-at : (i : ℕ) → f ≡ found.At i → w ≡ i → (0 ≡ foundWord f) × (w ≡ foundPlace f old)
   found-at i q e = (sym (ap foundWord q), e ∙ sym (ap (λ (y : Found). foundPlace y old) q))
 
+-- what is told of an answer is told of its equal
+pub told-found : (f g : Found) (old : ℕ) {w p : ℕ} → f ≡ g → (w ≡ foundWord f) × (p ≡ foundPlace f old) → (w ≡ foundWord g) × (p ≡ foundPlace g old)
+told-found f g old e h = (h .0 ∙ ap foundWord e, h .1 ∙ ap (λ (y : Found). foundPlace y old) e)
+
 -- ---- marks, or a refusal
 
 module _ (a : Answer) (w old : ℕ) where
   pub marks-refused : (x : DpeErrorCode) → a ≡ answer.Refused x → w ≡ wordOf (Refused x) → (w ≡ marksWord a) × (old ≡ marksPlace a old)
   marks-refused x q e = (e ∙ sym (ap marksWord q), sym (ap (λ (y : Answer). marksPlace y old) q))
 
-  pub marks-found : a ≡ answer.Marks w → (0 ≡ marksWord a) × (w ≡ marksPlace a old)
-  marks-found q = (sym (ap marksWord q), sym (ap (λ (y : Answer). marksPlace y old) q))
+pub told-marks : (a b : Answer) (old : ℕ) {w p : ℕ} → a ≡ b → (w ≡ marksWord a) × (p ≡ marksPlace a old) → (w ≡ marksWord b) × (p ≡ marksPlace b old)
+told-marks a b old e h = (h .0 ∙ ap marksWord e, h .1 ∙ ap (λ (y : Answer). marksPlace y old) e)
 
 -- ---- a new handle, or a refusal
 
 module _ (n : NewHandle) (old : List ℕ) where
   pub kept : (x : DpeErrorCode) → n .answer ≡ Refused x → old ≡ handlePlace n old
   kept x q = rw q
-
-  pub given : (h : List ℕ) → n .answer ≡ Done → h ≡ n .handle → h ≡ handlePlace n old
-  given h q e = rw q e

@@ -15,17 +15,14 @@ use Rattle.duottarok.proofs.dpe_count.Tie as tie
 is-readable-requires : tie.Need-is-readable-requires
 is-readable-requires c κs = search needs
 
-readable-requires : tie.Need-readable-requires
-readable-requires c κs = search needs
-
-word-requires : tie.Need-word-requires
-word-requires c κs = search needs
+unread-requires : tie.Need-unread-requires
+unread-requires c κs = search needs
 
 returns : tie.Need-returns
 returns c =
-    let a = c .before .before .before .before .before .args in
-    let x = not-readable (now (a .image)) (sym (c .before .before .before .is-readable .ensures) ∙ not-true _ (c .before .before .if1 .taken)) in
-    found-refused (countAt (now (a .image)) (a .state)) _ (now (a .count)) _ (unread-found _ _ (x .1) _) (c .word .ensures ∙ ap wordOf (c .before .readable .ensures ∙ x .1))
+    let a = c .before .before .before .before .args in
+    let x = not-readable (now (a .image)) (sym (c .before .before .is-readable .ensures) ∙ not-true _ (c .before .if1 .taken)) in
+    found-refused (countAt (now (a .image)) (a .state)) _ (now (a .count)) _ (unread-found _ _ (x .1) _) (c .unread .ensures ∙ ap wordOf (x .1))
 
 refused-requires : tie.Need-refused-requires
 refused-requires c κs = search needs
@@ -51,8 +48,7 @@ dpe-count-spec =
     tie.close
     (tie.spec
     is-readable-requires
-    readable-requires
-    word-requires
+    unread-requires
     returns
     refused-requires
     returns-2

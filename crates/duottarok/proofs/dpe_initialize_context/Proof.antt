@@ -1,7 +1,7 @@
 -- `duottarok::dpe_initialize_context` meets its contract. Assumes nothing.
 use mathlib.Core.Path.{_≡_, sym, ap, _∙_}
 use denote.Ref.{now}
-use Rattle.error.specs.declared.Outcome.the-variants.{Done, Refused}
+use Rattle.error.specs.declared.Outcome.the-variants.{Refused}
 use Rattle.error.specs.Numbers.{wordOf}
 use Rattle.children.proofs.Cases.{not-true, not-false}
 use Rattle.table.specs.declared.state.NewHandle.{NewHandle}
@@ -9,10 +9,10 @@ use Rattle.image.specs.State.{decodeState}
 use Rattle.image.proofs.Reading.{readable-done, not-readable}
 use Rattle.candidates.specs.declared.Chosen.{Chosen}
 use Rattle.initialize_context.specs.Initialize.{initializedOf}
-use Rattle.place.specs.Place.{imageAfter}
+use Rattle.place.specs.Place.{bytesPlace, imageAfter, chosenOf}
 use Rattle.place.proofs.After.{after-refused}
 use Rattle.duottarok.specs.Exports.{initializeAt}
-use Rattle.duottarok.proofs.Exports.{unread-handle, read-handle, kept, given}
+use Rattle.duottarok.proofs.Exports.{unread-handle, read-handle, kept}
 use borrow.Author.Needs.{needs}
 use Rattle.duottarok.proofs.dpe_initialize_context.Statement.{statement}
 use Rattle.duottarok.proofs.dpe_initialize_context.Tie as tie
@@ -20,77 +20,48 @@ use Rattle.duottarok.proofs.dpe_initialize_context.Tie as tie
 is-readable-requires : tie.Need-is-readable-requires
 is-readable-requires c κs = search needs
 
-readable-requires : tie.Need-readable-requires
-readable-requires c κs = search needs
-
-word-requires : tie.Need-word-requires
-word-requires c κs = search needs
+unread-requires : tie.Need-unread-requires
+unread-requires c κs = search needs
 
 same-length : tie.Need-same-length
 same-length c = search needs
 
 returns : tie.Need-returns
 returns c =
-    let a = c .before .before .before .before .before .before .before .before .args in
+    let a = c .before .before .before .before .before .before .before .args in
     let n = initializeAt (now (a .image)) (a .flags) (a .locality) (now (a .candidates)) in
-    let x = not-readable (now (a .image)) (sym (c .before .before .before .before .is-readable .ensures) ∙ not-true _ (c .before .before .before .if1 .taken)) in
+    let x = not-readable (now (a .image)) (sym (c .before .before .before .is-readable .ensures) ∙ not-true _ (c .before .before .if1 .taken)) in
     let e : n .answer ≡ Refused (x .0) = unread-handle _ _ (x .1) _ _ in
-    (c .word .ensures ∙ ap wordOf (c .before .readable .ensures ∙ x .1 ∙ sym e), (after-refused n (now (a .image)) _ e, kept n (now (a .new-handle)) _ e))
+    (c .unread .ensures ∙ ap wordOf (x .1 ∙ sym e), (after-refused n (now (a .image)) _ e, kept n (now (a .new-handle)) _ e))
 
 initialize-context-requires : tie.Need-initialize-context-requires
 initialize-context-requires c κs = readable-done _ (sym (c .before .before .is-readable .ensures) ∙ not-false _ (c .before .if1 .left))
 
-enum-told : tie.Need-enum-told
-enum-told c = search needs
-
-enum-told-2 : tie.Need-enum-told-2
-enum-told-2 c = search needs
-
-word-requires-2 : tie.Need-word-requires-2
-word-requires-2 c κs = search needs
+tell-handle-requires : tie.Need-tell-handle-requires
+tell-handle-requires c κs = search needs
 
 same-length-2 : tie.Need-same-length-2
 same-length-2 c = search needs
 
 returns-2 : tie.Need-returns-2
 returns-2 c =
-    let a = c .before .before .before .before .before .before .before .before .before .before .before .before .args in
+    let a = c .before .before .before .before .before .before .before .before .before .before .before .args in
     let l = now (a .image) in
-    let n = initializeAt l (a .flags) (a .locality) (now (a .candidates)) in
-    let r = read-handle _ (readable-done _ (sym (c .before .before .before .before .before .before .before .before .is-readable .ensures) ∙ not-false _ (c .before .before .before .before .before .before .before .if1 .left))) (decodeState l) (initializedOf (decodeState l) (a .flags) (a .locality) (now (a .candidates))) in
-    let e = c .before .before .before .before .before .initialize-context .ensures in
-    let q = c .before .enum-told2 .given .1 in
-    let x : n .answer ≡ Refused _ = ap (λ (y : NewHandle). y .answer) r ∙ sym (ap (λ (y : Chosen). y .answer) (e .0)) ∙ q in
-    (c .word2 .ensures ∙ ap wordOf (q ∙ sym x), (e .1 ∙ sym (ap (λ (y : NewHandle). imageAfter y l) r), kept n (now (a .new-handle)) _ x))
-
-same-length-3 : tie.Need-same-length-3
-same-length-3 c = search needs
-
-returns-3 : tie.Need-returns-3
-returns-3 c =
-    let a = c .before .before .before .before .before .before .before .before .before .before .before .before .args in
-    let l = now (a .image) in
-    let n = initializeAt l (a .flags) (a .locality) (now (a .candidates)) in
-    let r = read-handle _ (readable-done _ (sym (c .before .before .before .before .before .before .before .before .is-readable .ensures) ∙ not-false _ (c .before .before .before .before .before .before .before .if1 .left))) (decodeState l) (initializedOf (decodeState l) (a .flags) (a .locality) (now (a .candidates))) in
-    let e = c .before .before .before .before .before .initialize-context .ensures in
-    let x : n .answer ≡ Done = ap (λ (y : NewHandle). y .answer) r ∙ sym (ap (λ (y : Chosen). y .answer) (e .0)) ∙ c .before .enum-told .given .1 in
-    let h = ap (λ (y : Chosen). y .handle) (e .0) ∙ sym (ap (λ (y : NewHandle). y .handle) r) in
-    (sym (ap wordOf x), (e .1 ∙ sym (ap (λ (y : NewHandle). imageAfter y l) r), given n (now (a .new-handle)) _ x h))
+    let r = read-handle _ (readable-done _ (sym (c .before .before .before .before .before .before .before .is-readable .ensures) ∙ not-false _ (c .before .before .before .before .before .before .if1 .left))) (decodeState l) (initializedOf (decodeState l) (a .flags) (a .locality) (now (a .candidates))) in
+    let e = c .before .before .before .before .initialize-context .ensures in
+    let x = e .0 ∙ sym (ap chosenOf r) in
+    let h = c .tell-handle .ensures in
+    (h .0 ∙ ap (λ (y : Chosen). wordOf (y .answer)) x, (e .1 ∙ sym (ap (λ (y : NewHandle). imageAfter y l) r), h .1 ∙ ap (λ (y : Chosen). bytesPlace (y .answer) (y .handle) (now (a .new-handle))) x))
 
 pub dpe-initialize-context-spec : {M : Type 1} → statement M
 dpe-initialize-context-spec =
     tie.close
     (tie.spec
     is-readable-requires
-    readable-requires
-    word-requires
+    unread-requires
     same-length
     returns
     initialize-context-requires
-    enum-told
-    enum-told-2
-    word-requires-2
+    tell-handle-requires
     same-length-2
-    returns-2
-    same-length-3
-    returns-3)
+    returns-2)

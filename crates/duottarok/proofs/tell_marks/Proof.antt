@@ -1,0 +1,25 @@
+-- `duottarok::tell_marks` meets its contract. Assumes nothing.
+use denote.Ref.{now}
+use Rattle.duottarok.proofs.Exports.{marks-refused}
+use borrow.Author.Needs.{needs}
+use Rattle.duottarok.proofs.tell_marks.Statement.{statement}
+use Rattle.duottarok.proofs.tell_marks.Tie as tie
+
+enum-known-a : tie.Need-enum-known-a
+enum-known-a c = search needs
+
+enum-known-a-2 : tie.Need-enum-known-a-2
+enum-known-a-2 c = search needs
+
+refused-requires : tie.Need-refused-requires
+refused-requires c κs = search needs
+
+returns : tie.Need-returns
+returns c = search needs
+
+returns-2 : tie.Need-returns-2
+returns-2 c = marks-refused (c .before .before .before .before .args .a) _ (now (c .before .before .before .before .args .place)) _ (c .before .before .a2 .given .1) (c .refused .ensures)
+
+pub tell-marks-spec : {M : Type 1} → statement M
+tell-marks-spec =
+    tie.close (tie.spec enum-known-a enum-known-a-2 refused-requires returns returns-2)
