@@ -1,6 +1,6 @@
 // The validator on a lent image, where it lies: no table is built. validation.rs.
 // `validate_dpe` has the name of the one by value, which says what it means.
-pub mod summary;
+mod summary;
 
 use children::MAX_HANDLES;
 use error::Outcome;

@@ -114,8 +114,6 @@ use Rattle.peek.proofs.find.get_active_context_pos.Reads as peek-find-get-activ
 use Rattle.peek.proofs.find.count_contexts.Reads as peek-find-count-contexts-reads
 use Rattle.peek.proofs.find.get_next_inactive_context_pos.Reads as peek-find-get-next-inactive-context-pos-reads
 use Rattle.peek.proofs.choose.generate_new_handle.Reads as peek-choose-generate-new-handle-reads
-use Rattle.peek_validate.proofs.summary.links_of.Reads as peek-summary-links-of-reads
-use Rattle.peek_validate.proofs.summary.places_of.Reads as peek-summary-places-of-reads
 use Rattle.peek_walks.proofs.down.descend.Reads as peek-down-descend-reads
 use Rattle.peek_walks.proofs.down.get_descendants.Reads as peek-down-get-descendants-reads
 use Rattle.peek_walks.proofs.path.root_to_leaf.Reads as peek-path-root-to-leaf-reads
@@ -475,12 +473,6 @@ peek-find-get-next-inactive-context-pos κ a r r′ s s′ = one
 
 pub peek-choose-generate-new-handle : OneResult peek-choose-generate-new-handle-reads.Post
 peek-choose-generate-new-handle κ a r r′ s s′ = one
-
-pub peek-summary-links-of : OneResult peek-summary-links-of-reads.Post
-peek-summary-links-of κ a r r′ s s′ = one
-
-pub peek-summary-places-of : OneResult peek-summary-places-of-reads.Post
-peek-summary-places-of κ a r r′ s s′ = one
 
 pub peek-down-descend : OneResult peek-down-descend-reads.Post
 peek-down-descend κ a r r′ s s′ = one
