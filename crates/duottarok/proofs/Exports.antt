@@ -1,11 +1,10 @@
 -- How an exported call ends, way by way: its word and its lent places. Assumes nothing.
 use mathlib.Core.List.{List}
-use mathlib.Core.Path.{_≡_, sym, ap, _∙_}
+use mathlib.Core.Path.{_≡_}
 use Prim.Native.Nat.{ℕ}
 use Rattle.error.specs.declared.DpeErrorCode.{DpeErrorCode}
 use Rattle.error.specs.declared.Outcome.{Outcome}
 use Rattle.error.specs.declared.Outcome.the-variants.{Done, Refused}
-use Rattle.error.specs.Numbers.{wordOf}
 use Rattle.children.specs.declared.Answer.{Answer}
 use Rattle.children.specs.declared.Answer.the-variants as answer
 use Rattle.table.specs.declared.state.State.{State}
@@ -13,7 +12,7 @@ use Rattle.table.specs.declared.state.Found.{Found}
 use Rattle.table.specs.declared.state.Found.the-variants as found
 use Rattle.table.specs.declared.state.NewHandle.{NewHandle}
 use Rattle.destroy_context.specs.declared.Destroyed.{Destroyed}
-use Rattle.duottarok.specs.Exports.{foundWord, foundPlace, marksWord, marksPlace, foundAfter, marksAfter, handleAfter, destroyAfter, handlePlace}
+use Rattle.duottarok.specs.Exports.{foundAfter, marksAfter, handleAfter, destroyAfter, handlePlace}
 
 -- ---- what a call says after reading: the reading's refusal, or its own answer
 
@@ -42,28 +41,6 @@ module _ (o : Outcome) (q : o ≡ Done) where
 
   pub read-destroy : (t : State) (d : Destroyed) → destroyAfter o t d ≡ d
   read-destroy t d = rw q
-
--- ---- a number, or a refusal
-
-module _ (f : Found) (w old : ℕ) where
-  pub found-refused : (x : DpeErrorCode) → f ≡ found.Refused x → w ≡ wordOf (Refused x) → (w ≡ foundWord f) × (old ≡ foundPlace f old)
-  found-refused x q e = (e ∙ sym (ap foundWord q), sym (ap (λ (y : Found). foundPlace y old) q))
-
-  pub found-at : (i : ℕ) → f ≡ found.At i → w ≡ i → (0 ≡ foundWord f) × (w ≡ foundPlace f old)
-  found-at i q e = (sym (ap foundWord q), e ∙ sym (ap (λ (y : Found). foundPlace y old) q))
-
--- what is told of an answer is told of its equal
-pub told-found : (f g : Found) (old : ℕ) {w p : ℕ} → f ≡ g → (w ≡ foundWord f) × (p ≡ foundPlace f old) → (w ≡ foundWord g) × (p ≡ foundPlace g old)
-told-found f g old e h = (h .0 ∙ ap foundWord e, h .1 ∙ ap (λ (y : Found). foundPlace y old) e)
-
--- ---- marks, or a refusal
-
-module _ (a : Answer) (w old : ℕ) where
-  pub marks-refused : (x : DpeErrorCode) → a ≡ answer.Refused x → w ≡ wordOf (Refused x) → (w ≡ marksWord a) × (old ≡ marksPlace a old)
-  marks-refused x q e = (e ∙ sym (ap marksWord q), sym (ap (λ (y : Answer). marksPlace y old) q))
-
-pub told-marks : (a b : Answer) (old : ℕ) {w p : ℕ} → a ≡ b → (w ≡ marksWord a) × (p ≡ marksPlace a old) → (w ≡ marksWord b) × (p ≡ marksPlace b old)
-told-marks a b old e h = (h .0 ∙ ap marksWord e, h .1 ∙ ap (λ (y : Answer). marksPlace y old) e)
 
 -- ---- a new handle, or a refusal
 

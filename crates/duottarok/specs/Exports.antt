@@ -7,7 +7,6 @@ use lib.Dec.{ltb}
 use Rattle.error.specs.declared.DpeErrorCode.the-variants.{InvalidArgument}
 use Rattle.error.specs.declared.Outcome.{Outcome}
 use Rattle.error.specs.declared.Outcome.the-variants.{Done, Refused}
-use Rattle.error.specs.Numbers.{wordOf}
 use Rattle.children.specs.declared.Answer.{Answer}
 use Rattle.children.specs.declared.Answer.the-variants as answer
 use Rattle.children.specs.Marks.{slotCount}
@@ -27,29 +26,9 @@ use Rattle.walks.specs.Walks.{descendantsIn}
 use Rattle.walks_path.specs.Path.{pathIn}
 use Rattle.destroy_context.specs.declared.Destroyed.{Destroyed}
 use Rattle.destroy_context.specs.Destroy.{destroyOf, refusedBy}
-use Rattle.place.specs.Place.{bytesPlace}
+use Rattle.tell.specs.Tell.{bytesPlace}
 
--- ---- an answer as a word, and what a lent place holds then
-
--- a number, or a refusal
-abbrev pub foundWord : Found → ℕ
-foundWord (found.At i) = wordOf Done
-foundWord (found.Refused e) = wordOf (Refused e)
-
-abbrev pub foundPlace : Found → ℕ → ℕ
-foundPlace (found.At i) old = i
-foundPlace (found.Refused e) old = old
-
--- marks, or a refusal
-abbrev pub marksWord : Answer → ℕ
-marksWord (answer.Marks m) = wordOf Done
-marksWord (answer.Refused e) = wordOf (Refused e)
-
-abbrev pub marksPlace : Answer → ℕ → ℕ
-marksPlace (answer.Marks m) old = m
-marksPlace (answer.Refused e) old = old
-
--- the place of the new handle; what the image holds stands in place/specs
+-- the place of the new handle; the other places stand in tell/specs, and what the image holds in place/specs
 abbrev pub handlePlace : NewHandle → List ℕ → List ℕ
 handlePlace n old = bytesPlace (n .answer) (n .handle) old
 

@@ -2,22 +2,17 @@
 use mathlib.Core.List.{List}
 use mathlib.Core.Path.{_≡_}
 use Prim.Native.Nat.{ℕ}
-use Rattle.error.specs.declared.Outcome.{Outcome}
-use Rattle.error.specs.declared.Outcome.the-variants.{Done, Refused}
+use Rattle.error.specs.declared.Outcome.the-variants.{Done}
 use Rattle.table.specs.declared.state.State.{State}
 use Rattle.table.specs.declared.state.NewHandle.{NewHandle}
 use Rattle.candidates.specs.declared.Chosen.{Chosen}
 use Rattle.destroy_context.specs.declared.Destroyed.{Destroyed}
 use Rattle.image.specs.State.{decodeState, encodeState, readableOf}
+use Rattle.tell.specs.Tell.{bytesPlace}
 
 -- the bytes l are an image that reads, and its table is t
 abbrev pub Holds : List ℕ → State → Type 0
 Holds l t = (readableOf l ≡ Done) × (decodeState l ≡ t)
-
--- bytes that are written for success alone
-abbrev pub bytesPlace : Outcome → List ℕ → List ℕ → List ℕ
-bytesPlace Done new old = new
-bytesPlace (Refused e) new old = old
 
 -- the image after a call that answers a table and a handle, and what the call answers beside the table
 abbrev pub imageAfter : NewHandle → List ℕ → List ℕ

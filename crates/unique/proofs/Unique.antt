@@ -123,6 +123,11 @@ use Rattle.peek_validate.proofs.validate_image.Reads as peek-validate-validate-
 use Rattle.place_initialize.proofs.initialize_context.Reads as place-initialize-initialize-context-reads
 use Rattle.place_rotate.proofs.rotate_context.Reads as place-rotate-rotate-context-reads
 use Rattle.place_destroy.proofs.destroy_context.Reads as place-destroy-destroy-context-reads
+use Rattle.tell.proofs.refused.Reads as tell-refused-reads
+use Rattle.tell.proofs.unread.Reads as tell-unread-reads
+use Rattle.tell.proofs.number.Reads as tell-number-reads
+use Rattle.tell.proofs.marks.Reads as tell-marks-reads
+use Rattle.tell.proofs.new_handle.Reads as tell-new-handle-reads
 use Rattle.duottarok.proofs.dpe_validate.Reads as dpe-validate-reads
 use Rattle.duottarok.proofs.dpe_lookup.Reads as dpe-lookup-reads
 use Rattle.duottarok.proofs.dpe_initialize_context.Reads as dpe-initialize-context-reads
@@ -500,6 +505,21 @@ place-rotate-rotate-context κ a r r′ s s′ p q = (one (p .0) (q .0), one (p 
 
 pub place-destroy-destroy-context : (κ : _) (a : _) (r r′ : _) (s s′ : _) → place-destroy-destroy-context-reads.Post κ a r s → place-destroy-destroy-context-reads.Post κ a r′ s′ → (r ≡ r′) × (now (s .0) ≡ now (s′ .0))
 place-destroy-destroy-context κ a r r′ s s′ p q = (one (p .0) (q .0), one (p .1) (q .1))
+
+pub tell-refused : OneResult tell-refused-reads.Post
+tell-refused κ a r r′ s s′ = one
+
+pub tell-unread : OneResult tell-unread-reads.Post
+tell-unread κ a r r′ s s′ = one
+
+pub tell-number : (κ : _) (a : _) (r r′ : _) (s s′ : _) → tell-number-reads.Post κ a r s → tell-number-reads.Post κ a r′ s′ → (r ≡ r′) × (now (s .1 .0) ≡ now (s′ .1 .0))
+tell-number κ a r r′ s s′ p q = (one (p .0) (q .0), one (p .1) (q .1))
+
+pub tell-marks : (κ : _) (a : _) (r r′ : _) (s s′ : _) → tell-marks-reads.Post κ a r s → tell-marks-reads.Post κ a r′ s′ → (r ≡ r′) × (now (s .1 .0) ≡ now (s′ .1 .0))
+tell-marks κ a r r′ s s′ p q = (one (p .0) (q .0), one (p .1) (q .1))
+
+pub tell-new-handle : (κ : _) (a : _) (r r′ : _) (s s′ : _) → tell-new-handle-reads.Post κ a r s → tell-new-handle-reads.Post κ a r′ s′ → (r ≡ r′) × (now (s .1 .0) ≡ now (s′ .1 .0))
+tell-new-handle κ a r r′ s s′ p q = (one (p .0) (q .0), one (p .1) (q .1))
 
 pub dpe-validate : OneResult dpe-validate-reads.Post
 dpe-validate κ a r r′ s s′ = one

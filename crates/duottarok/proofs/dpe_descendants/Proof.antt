@@ -5,7 +5,8 @@ use Rattle.error.specs.Numbers.{wordOf}
 use Rattle.children.proofs.Cases.{not-true, not-false}
 use Rattle.image.proofs.Reading.{readable-size, readable-done, not-readable}
 use Rattle.duottarok.specs.Exports.{descendantsAt}
-use Rattle.duottarok.proofs.Exports.{unread-marks, read-marks, marks-refused, told-marks}
+use Rattle.tell.proofs.Told.{marks-refused, told-marks}
+use Rattle.duottarok.proofs.Exports.{unread-marks, read-marks}
 use borrow.Author.Needs.{needs}
 use Rattle.duottarok.proofs.dpe_descendants.Statement.{statement}
 use Rattle.duottarok.proofs.dpe_descendants.Tie as tie
@@ -25,14 +26,14 @@ returns c =
 get-descendants-requires : tie.Need-get-descendants-requires
 get-descendants-requires c κs = readable-size _ (readable-done _ (sym (c .before .is-readable .ensures) ∙ not-false _ (c .if1 .left)))
 
-tell-marks-requires : tie.Need-tell-marks-requires
-tell-marks-requires c κs = search needs
+marks-requires : tie.Need-marks-requires
+marks-requires c κs = search needs
 
 returns-2 : tie.Need-returns-2
 returns-2 c =
     let a = c .before .before .before .before .before .before .args in
     let r = read-marks _ (readable-done _ (sym (c .before .before .before .before .is-readable .ensures) ∙ not-false _ (c .before .before .before .if1 .left))) _ in
-    told-marks _ (descendantsAt (now (a .image)) (a .slot)) (now (a .marks)) (c .before .before .get-descendants .ensures ∙ sym r) (c .tell-marks .ensures)
+    told-marks _ (descendantsAt (now (a .image)) (a .slot)) (now (a .marks)) (c .before .before .get-descendants .ensures ∙ sym r) (c .marks .ensures)
 
 pub dpe-descendants-spec : {M : Type 1} → statement M
 dpe-descendants-spec =
@@ -42,5 +43,5 @@ dpe-descendants-spec =
     unread-requires
     returns
     get-descendants-requires
-    tell-marks-requires
+    marks-requires
     returns-2)

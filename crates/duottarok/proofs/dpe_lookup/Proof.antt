@@ -5,7 +5,8 @@ use Rattle.error.specs.Numbers.{wordOf}
 use Rattle.children.proofs.Cases.{not-true, not-false}
 use Rattle.image.proofs.Reading.{readable-size, readable-done, not-readable}
 use Rattle.duottarok.specs.Exports.{lookupAt}
-use Rattle.duottarok.proofs.Exports.{unread-found, read-found, found-refused, told-found}
+use Rattle.tell.proofs.Told.{found-refused, told-found}
+use Rattle.duottarok.proofs.Exports.{unread-found, read-found}
 use borrow.Author.Needs.{needs}
 use Rattle.duottarok.proofs.dpe_lookup.Statement.{statement}
 use Rattle.duottarok.proofs.dpe_lookup.Tie as tie
@@ -25,14 +26,14 @@ returns c =
 get-active-context-pos-requires : tie.Need-get-active-context-pos-requires
 get-active-context-pos-requires c κs = readable-size _ (readable-done _ (sym (c .before .before .is-readable .ensures) ∙ not-false _ (c .before .if1 .left)))
 
-tell-number-requires : tie.Need-tell-number-requires
-tell-number-requires c κs = search needs
+number-requires : tie.Need-number-requires
+number-requires c κs = search needs
 
 returns-2 : tie.Need-returns-2
 returns-2 c =
     let a = c .before .before .before .before .before .before .before .args in
     let r = read-found _ (readable-done _ (sym (c .before .before .before .before .before .is-readable .ensures) ∙ not-false _ (c .before .before .before .before .if1 .left))) _ in
-    told-found _ (lookupAt (now (a .image)) (now (a .handle)) (a .locality)) (now (a .slot)) (c .before .before .get-active-context-pos .ensures ∙ sym r) (c .tell-number .ensures)
+    told-found _ (lookupAt (now (a .image)) (now (a .handle)) (a .locality)) (now (a .slot)) (c .before .before .get-active-context-pos .ensures ∙ sym r) (c .number .ensures)
 
 pub dpe-lookup-spec : {M : Type 1} → statement M
 dpe-lookup-spec =
@@ -42,5 +43,5 @@ dpe-lookup-spec =
     unread-requires
     returns
     get-active-context-pos-requires
-    tell-number-requires
+    number-requires
     returns-2)

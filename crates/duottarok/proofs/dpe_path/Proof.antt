@@ -7,7 +7,8 @@ use Rattle.table.specs.declared.state.Found.{Found}
 use Rattle.image.proofs.Reading.{readable-size, readable-done, not-readable}
 use Rattle.walks_path.specs.Path.{slotsPlace}
 use Rattle.duottarok.specs.Exports.{pathAt, lengthAt}
-use Rattle.duottarok.proofs.Exports.{unread-found, read-found, found-refused, told-found}
+use Rattle.tell.proofs.Told.{found-refused, told-found}
+use Rattle.duottarok.proofs.Exports.{unread-found, read-found}
 use borrow.Author.Needs.{needs}
 use Rattle.duottarok.proofs.dpe_path.Statement.{statement}
 use Rattle.duottarok.proofs.dpe_path.Tie as tie
@@ -29,15 +30,15 @@ returns c =
 root-to-leaf-requires : tie.Need-root-to-leaf-requires
 root-to-leaf-requires c κs = readable-size _ (readable-done _ (sym (c .before .before .is-readable .ensures) ∙ not-false _ (c .before .if1 .left)))
 
-tell-number-requires : tie.Need-tell-number-requires
-tell-number-requires c κs = search needs
+number-requires : tie.Need-number-requires
+number-requires c κs = search needs
 
 returns-2 : tie.Need-returns-2
 returns-2 c =
     let a = c .before .before .before .before .before .before .before .args in
     let e = c .before .before .root-to-leaf .ensures in
     let q = read-found _ (readable-done _ (sym (c .before .before .before .before .before .is-readable .ensures) ∙ not-false _ (c .before .before .before .before .if1 .left))) (pathAt (now (a .image)) (a .slot) .length) in
-    let p = told-found _ (lengthAt (now (a .image)) (a .slot)) (now (a .length)) (e .0 ∙ sym q) (c .tell-number .ensures) in
+    let p = told-found _ (lengthAt (now (a .image)) (a .slot)) (now (a .length)) (e .0 ∙ sym q) (c .number .ensures) in
     (p .0, (e .1 ∙ sym (ap (λ (f : Found). slotsPlace f (pathAt (now (a .image)) (a .slot) .slots) (now (a .slots))) q), p .1))
 
 pub dpe-path-spec : {M : Type 1} → statement M
@@ -48,5 +49,5 @@ dpe-path-spec =
     unread-requires
     returns
     root-to-leaf-requires
-    tell-number-requires
+    number-requires
     returns-2)

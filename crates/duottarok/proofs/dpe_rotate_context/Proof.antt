@@ -9,7 +9,8 @@ use Rattle.image.specs.State.{decodeState}
 use Rattle.image.proofs.Reading.{readable-done, not-readable}
 use Rattle.candidates.specs.declared.Chosen.{Chosen}
 use Rattle.rotate_context.specs.Rotate.{rotatedOf}
-use Rattle.place.specs.Place.{bytesPlace, imageAfter, chosenOf}
+use Rattle.tell.specs.Tell.{bytesPlace}
+use Rattle.place.specs.Place.{imageAfter, chosenOf}
 use Rattle.place.proofs.After.{after-refused}
 use Rattle.duottarok.specs.Exports.{rotateAt}
 use Rattle.duottarok.proofs.Exports.{unread-handle, read-handle, kept}
@@ -37,8 +38,8 @@ returns c =
 rotate-context-requires : tie.Need-rotate-context-requires
 rotate-context-requires c κs = readable-done _ (sym (c .before .before .before .is-readable .ensures) ∙ not-false _ (c .before .before .if1 .left))
 
-tell-handle-requires : tie.Need-tell-handle-requires
-tell-handle-requires c κs = search needs
+new-handle-requires : tie.Need-new-handle-requires
+new-handle-requires c κs = search needs
 
 same-length-2 : tie.Need-same-length-2
 same-length-2 c = search needs
@@ -50,7 +51,7 @@ returns-2 c =
     let r = read-handle _ (readable-done _ (sym (c .before .before .before .before .before .before .before .before .is-readable .ensures) ∙ not-false _ (c .before .before .before .before .before .before .before .if1 .left))) (decodeState l) (rotatedOf (decodeState l) (now (a .handle)) (a .locality) (a .flags) (now (a .candidates))) in
     let e = c .before .before .before .before .rotate-context .ensures in
     let x = e .0 ∙ sym (ap chosenOf r) in
-    let h = c .tell-handle .ensures in
+    let h = c .new-handle .ensures in
     (h .0 ∙ ap (λ (y : Chosen). wordOf (y .answer)) x, (e .1 ∙ sym (ap (λ (y : NewHandle). imageAfter y l) r), h .1 ∙ ap (λ (y : Chosen). bytesPlace (y .answer) (y .handle) (now (a .new-handle))) x))
 
 pub dpe-rotate-context-spec : {M : Type 1} → statement M
@@ -62,6 +63,6 @@ dpe-rotate-context-spec =
     same-length
     returns
     rotate-context-requires
-    tell-handle-requires
+    new-handle-requires
     same-length-2
     returns-2)

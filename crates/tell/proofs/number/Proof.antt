@@ -1,9 +1,9 @@
--- `duottarok::tell_number` meets its contract. Assumes nothing.
+-- `tell::number` meets its contract. Assumes nothing.
 use denote.Ref.{now}
-use Rattle.duottarok.proofs.Exports.{found-refused}
+use Rattle.tell.proofs.Told.{found-refused}
 use borrow.Author.Needs.{needs}
-use Rattle.duottarok.proofs.tell_number.Statement.{statement}
-use Rattle.duottarok.proofs.tell_number.Tie as tie
+use Rattle.tell.proofs.number.Statement.{statement}
+use Rattle.tell.proofs.number.Tie as tie
 
 enum-known-f : tie.Need-enum-known-f
 enum-known-f c = search needs
@@ -23,7 +23,7 @@ returns c = search needs
 returns-2 : tie.Need-returns-2
 returns-2 c = found-refused (c .before .before .before .before .args .f) _ (now (c .before .before .before .before .args .place)) _ (c .before .before .f2 .given .1) (c .refused .ensures)
 
-pub tell-number-spec : {M : Type 1} → statement M
-tell-number-spec =
+pub number-spec : {M : Type 1} → statement M
+number-spec =
     tie.close
     (tie.spec enum-known-f wide-requires enum-known-f-2 refused-requires returns returns-2)

@@ -1,9 +1,9 @@
--- `duottarok::unread` meets its contract. Assumes nothing.
+-- `tell::unread` meets its contract. Assumes nothing.
 use mathlib.Core.Path.{ap, _∙_}
 use Rattle.error.specs.Numbers.{wordOf}
 use borrow.Author.Needs.{needs}
-use Rattle.duottarok.proofs.unread.Statement.{statement}
-use Rattle.duottarok.proofs.unread.Tie as tie
+use Rattle.tell.proofs.unread.Statement.{statement}
+use Rattle.tell.proofs.unread.Tie as tie
 
 readable-requires : tie.Need-readable-requires
 readable-requires c κs = search needs

@@ -1,9 +1,9 @@
--- `duottarok::tell_marks` meets its contract. Assumes nothing.
+-- `tell::marks` meets its contract. Assumes nothing.
 use denote.Ref.{now}
-use Rattle.duottarok.proofs.Exports.{marks-refused}
+use Rattle.tell.proofs.Told.{marks-refused}
 use borrow.Author.Needs.{needs}
-use Rattle.duottarok.proofs.tell_marks.Statement.{statement}
-use Rattle.duottarok.proofs.tell_marks.Tie as tie
+use Rattle.tell.proofs.marks.Statement.{statement}
+use Rattle.tell.proofs.marks.Tie as tie
 
 enum-known-a : tie.Need-enum-known-a
 enum-known-a c = search needs
@@ -20,6 +20,6 @@ returns c = search needs
 returns-2 : tie.Need-returns-2
 returns-2 c = marks-refused (c .before .before .before .before .args .a) _ (now (c .before .before .before .before .args .place)) _ (c .before .before .a2 .given .1) (c .refused .ensures)
 
-pub tell-marks-spec : {M : Type 1} → statement M
-tell-marks-spec =
+pub marks-spec : {M : Type 1} → statement M
+marks-spec =
     tie.close (tie.spec enum-known-a enum-known-a-2 refused-requires returns returns-2)

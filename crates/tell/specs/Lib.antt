@@ -1,0 +1,2 @@
+-- What the contracts of tell, and of the crates above it, cite.
+pub mod Tell
