@@ -75,5 +75,5 @@ pub fn validate_image(image: &[u8]) -> Outcome
     if !state::is_readable(image) {
         return state::readable(image);
     }
-    validation::outcome(validate_dpe(image))
+    verdict::outcome(validate_dpe(image))
 }

@@ -92,7 +92,9 @@ use Rattle.image.proofs.state.is_readable.Reads as image-state-is-readable-read
 use Rattle.image_table.proofs.read_state.Reads as image-table-read-state-reads
 use Rattle.image_table.proofs.write_state.Reads as image-table-write-state-reads
 use Rattle.validation.proofs.validate_dpe.Reads as validation-validate-dpe-reads
-use Rattle.validation.proofs.outcome.Reads as validation-outcome-reads
+use Rattle.verdict.proofs.outcome.Reads as verdict-outcome-reads
+use Rattle.validation_fields.proofs.support_test.Reads as validation-fields-support-test-reads
+use Rattle.validation_fields.proofs.inactive_test.Reads as validation-fields-inactive-test-reads
 use Rattle.validation_localities.proofs.places_of.Reads as validation-localities-places-of-reads
 use Rattle.validation_localities.proofs.localities_test.Reads as validation-localities-localities-test-reads
 use Rattle.validation_slots.proofs.context_test.Reads as validation-slots-context-test-reads
@@ -413,8 +415,14 @@ image-table-write-state κ a r r′ s s′ p q = (one (p .0) (q .0), one (p .1) 
 pub validation-validate-dpe : OneResult validation-validate-dpe-reads.Post
 validation-validate-dpe κ a r r′ s s′ = one
 
-pub validation-outcome : OneResult validation-outcome-reads.Post
-validation-outcome κ a r r′ s s′ = one
+pub verdict-outcome : OneResult verdict-outcome-reads.Post
+verdict-outcome κ a r r′ s s′ = one
+
+pub validation-fields-support-test : OneResult validation-fields-support-test-reads.Post
+validation-fields-support-test κ a r r′ s s′ = one
+
+pub validation-fields-inactive-test : OneResult validation-fields-inactive-test-reads.Post
+validation-fields-inactive-test κ a r r′ s s′ = one
 
 pub validation-localities-places-of : OneResult validation-localities-places-of-reads.Post
 validation-localities-places-of κ a r r′ s s′ = one

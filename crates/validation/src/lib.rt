@@ -1,12 +1,10 @@
 // The validator of the context table: its tests in order. validation.rs.
-use error::DpeErrorCode;
-use error::Outcome;
 use error::ValidationError;
 use table::state;
 use table::state::State;
 use verdict::Verdict;
 ghost use mathlib.Core.Path.{_≡_};
-ghost use Rattle.verdict.specs.Tests.{verdictOf, outcomeOf};
+ghost use Rattle.verdict.specs.Tests.{verdictOf};
 
 // The verdict on a table: yes, or the first test that fails.
 pub fn validate_dpe(t: State) -> Verdict
@@ -32,14 +30,4 @@ pub fn validate_dpe(t: State) -> Verdict
         return w;
     };
     validation_trees::trees_test(&children, &parents, l.live, l.simulations)
-}
-
-// How a call ends that answers the verdict.
-pub fn outcome(v: Verdict) -> Outcome
-    ensures { λ r. ⌜ r ≡ outcomeOf v ⌝ }
-{
-    match v {
-        Verdict::Valid => Outcome::Done,
-        Verdict::Fault(e) => Outcome::Refused(DpeErrorCode::Validation(e)),
-    }
 }

@@ -8,3 +8,4 @@ pub mod Yes
 pub mod Parts
 pub mod Refusals
 pub mod Examples
+pub mod Exits

@@ -5,7 +5,10 @@ use borrow.Author.Needs.{needs}
 use Rattle.context.specs.Context.{slotOf}
 use Rattle.image.specs.State.{decodeState}
 use Rattle.verdict.specs.Tests.{headerOf}
-use Rattle.validation.proofs.Agree.{slots-by, places-by, forest-by, bad-marker, bad-version, bad-slot, bad-locality, to-forest}
+use Rattle.validation_slots.proofs.Agree.{slots-by}
+use Rattle.validation_localities.proofs.Agree.{places-by}
+use Rattle.validation_trees.proofs.Agree.{forest-by}
+use Rattle.verdict.proofs.Exits.{bad-marker, bad-version, bad-slot, bad-locality, to-forest}
 use Rattle.peek_validate.proofs.Tested.{marker-is, version-is}
 use Rattle.peek_validate.proofs.validate_dpe.Statement.{statement}
 use Rattle.peek_validate.proofs.validate_dpe.Tie as tie

@@ -3,7 +3,10 @@ use mathlib.Core.Path.{sym, _∙_}
 use borrow.Author.Needs.{needs}
 use Rattle.context.specs.Context.{slotOf}
 use Rattle.verdict.specs.Tests.{headerOf}
-use Rattle.validation.proofs.Agree.{slots-by, places-by, forest-by, bad-marker, bad-version, bad-slot, bad-locality, to-forest}
+use Rattle.validation_slots.proofs.Agree.{slots-by}
+use Rattle.validation_localities.proofs.Agree.{places-by}
+use Rattle.validation_trees.proofs.Agree.{forest-by}
+use Rattle.verdict.proofs.Exits.{bad-marker, bad-version, bad-slot, bad-locality, to-forest}
 use Rattle.validation.proofs.validate_dpe.Statement.{statement}
 use Rattle.validation.proofs.validate_dpe.Tie as tie
 

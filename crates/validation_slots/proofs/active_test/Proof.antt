@@ -4,7 +4,7 @@ use Prim.Native.Nat.{_-_}
 use borrow.Author.Needs.{needs}
 use Rattle.verdict.specs.Tests.{stateOf}
 use Rattle.verdict.proofs.Steps.{pass, stop}
-use Rattle.validation_slots.proofs.Exits.{used}
+use Rattle.validation_fields.proofs.Exits.{used}
 use Rattle.validation_slots.proofs.active_test.Statement.{statement}
 use Rattle.validation_slots.proofs.active_test.Tie as tie
 

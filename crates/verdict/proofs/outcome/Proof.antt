@@ -1,10 +1,10 @@
--- `validation::outcome` meets its contract. Assumes nothing.
+-- `verdict::outcome` meets its contract. Assumes nothing.
 use mathlib.Core.Path.{sym, ap}
 use Prim.Native.Nat.{_-_}
 use borrow.Author.Needs.{needs}
 use Rattle.verdict.specs.Tests.{outcomeOf}
-use Rattle.validation.proofs.outcome.Statement.{statement}
-use Rattle.validation.proofs.outcome.Tie as tie
+use Rattle.verdict.proofs.outcome.Statement.{statement}
+use Rattle.verdict.proofs.outcome.Tie as tie
 
 enum-told : tie.Need-enum-told
 enum-told c = search needs

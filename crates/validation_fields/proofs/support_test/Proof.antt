@@ -1,12 +1,12 @@
--- `validation_slots::support_test` meets its contract. Assumes nothing.
+-- `validation_fields::support_test` meets its contract. Assumes nothing.
 use mathlib.Core.Path.{sym, _∙_}
 use Prim.Native.Nat.{_-_}
 use borrow.Author.Needs.{needs}
 use Rattle.verdict.specs.Tests.{hasParent, supportOf}
 use Rattle.verdict.proofs.Steps.{need-on, need-off, pass, stop}
-use Rattle.validation_slots.proofs.Exits.{used, neither, used-with}
-use Rattle.validation_slots.proofs.support_test.Statement.{statement}
-use Rattle.validation_slots.proofs.support_test.Tie as tie
+use Rattle.validation_fields.proofs.Exits.{used, neither, used-with}
+use Rattle.validation_fields.proofs.support_test.Statement.{statement}
+use Rattle.validation_fields.proofs.support_test.Tie as tie
 
 is-normal-requires : tie.Need-is-normal-requires
 is-normal-requires c κs = search needs

@@ -1,4 +1,4 @@
--- `validation_slots::inactive_test` meets its contract. Assumes nothing.
+-- `validation_fields::inactive_test` meets its contract. Assumes nothing.
 use mathlib.Core.Bool.{not, _||_}
 use mathlib.Core.Path.{sym, ap, ap₂, _∙_}
 use Prim.Native.Nat.{_-_}
@@ -7,8 +7,8 @@ use borrow.Author.Tests.{eq-eqb, ne-eqb}
 use Rattle.children.proofs.Cases.{not-true, not-false}
 use Rattle.verdict.specs.Tests.{inactiveOf}
 use Rattle.verdict.proofs.Steps.{need-on, need-off, pass, stop}
-use Rattle.validation_slots.proofs.inactive_test.Statement.{statement}
-use Rattle.validation_slots.proofs.inactive_test.Tie as tie
+use Rattle.validation_fields.proofs.inactive_test.Statement.{statement}
+use Rattle.validation_fields.proofs.inactive_test.Tie as tie
 
 returns : tie.Need-returns
 unfolding inactiveOf

@@ -1,4 +1,4 @@
--- `validation_slots::is_zero` meets its contract. Assumes nothing.
+-- `validation_fields::is_zero` meets its contract. Assumes nothing.
 use mathlib.Core.Bool.{Bool, _&&_}
 use mathlib.Core.List.{List}
 use mathlib.Core.Path.{_≡_, refl, sym, ap, ap₂, _∙_}
@@ -11,8 +11,8 @@ use lib.Seq.{take-all}
 use Rattle.handle.specs.Handle.{sameBytes}
 use Rattle.context.specs.Bytes.{tciSize}
 use Rattle.handle.proofs.Bytes.{same-next}
-use Rattle.validation_slots.proofs.is_zero.Statement.{statement}
-use Rattle.validation_slots.proofs.is_zero.Tie as tie
+use Rattle.validation_fields.proofs.is_zero.Statement.{statement}
+use Rattle.validation_fields.proofs.is_zero.Tie as tie
 
 abbrev Inv-loop : tie.InvT-loop
 Inv-loop a b same₀ i₀ same i = (i ≤ tciSize) × (same ≡ sameBytes (take i a) (take i b))

@@ -1,9 +1,9 @@
--- `validation_slots::is_zero_tci` meets its contract. Assumes nothing.
+-- `validation_fields::is_zero_tci` meets its contract. Assumes nothing.
 use Prim.Native.Nat.{_-_}
 use borrow.Author.Needs.{needs}
 use Rattle.verdict.specs.Tests.{isZeroTci}
-use Rattle.validation_slots.proofs.is_zero_tci.Statement.{statement}
-use Rattle.validation_slots.proofs.is_zero_tci.Tie as tie
+use Rattle.validation_fields.proofs.is_zero_tci.Statement.{statement}
+use Rattle.validation_fields.proofs.is_zero_tci.Tie as tie
 
 is-zero-requires : tie.Need-is-zero-requires
 is-zero-requires c κs = search needs
