@@ -8,7 +8,7 @@ ghost use Rattle.children.specs.Marks.{slotCount};
 ghost use Rattle.clearing.specs.Clearing.{clearedSlot, clearedBy};
 
 // The context of slot i: cleared where the set has the slot, and else without the marks of the set.
-pub fn cleared_slot(c: Context, i: usize, set: u64) -> Context
+fn cleared_slot(c: Context, i: usize, set: u64) -> Context
     requires { ⌜ i < slotCount ⌝ }
     ensures { λ r. ⌜ r ≡ clearedSlot set i c ⌝ }
 {

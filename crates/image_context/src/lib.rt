@@ -12,7 +12,7 @@ ghost use Rattle.image_context.specs.Context.{stateOf, typeOf, decodeTci
 
 pub const SIZE: usize = 144;
 
-// Where the fields of a context lie in it.
+// Where the fields of a context lie in it; image_kinds has the type and the state byte, 137 and 138.
 pub const HANDLE_AT: usize = 0;
 
 pub const TCI_TYPE_AT: usize = 16;

@@ -41,3 +41,10 @@ pub fn links_of(t: State) -> Links
         simulations,
     }
 }
+
+// The number that a parent byte says.
+pub fn index(x: u8) -> usize
+    ensures { λ r. ⌜ r ≡ x ⌝ }
+{
+    x as usize
+}

@@ -42,7 +42,7 @@ fn slots_test(
 }
 
 // The verdict on the table of an image: yes, or the first test that fails.
-pub fn validate_dpe(image: &[u8]) -> Verdict
+fn validate_dpe(image: &[u8]) -> Verdict
     requires { ⌜ length (now image) ≡ stateSize ⌝ }
     ensures { λ r. ⌜ r ≡ verdictOf (decodeState (now (image .entry))) ⌝ }
 {

@@ -28,12 +28,12 @@ fn parent_of(image: &[u8], slot: usize) -> Found
     }
     let p = slot::parent_at(image, slot);
     if p == ROOT_INDEX {
-        return Found::At(walks_run::index(p));
+        return Found::At(links::index(p));
     }
-    if walks_run::index(p) >= MAX_HANDLES {
+    if links::index(p) >= MAX_HANDLES {
         return Found::Refused(DpeErrorCode::InvalidHandle);
     }
-    Found::At(walks_run::index(p))
+    Found::At(links::index(p))
 }
 
 // The climb from a slot to its root, each parent read once: how many slots the path has, or why there is none. `up` gets the slots met, the slot itself first.
@@ -49,7 +49,7 @@ fn climbed(image: &[u8], slot: usize, up: &mut [u8; MAX_HANDLES]) -> Found
             return f;
         };
         up[j] = walks_path::byte(x);
-        if p == walks_run::index(ROOT_INDEX) {
+        if p == links::index(ROOT_INDEX) {
             return Found::At(j + 1);
         }
         x = p;

@@ -22,7 +22,7 @@ pub fn run_above(image: &[u8], start: u8) -> Answer
     let mut taken = children::empty();
     let mut p = start;
     for d in 0..MAX_HANDLES {
-        let i = walks_run::index(p);
+        let i = links::index(p);
         if i >= MAX_HANDLES {
             if p == ROOT_INDEX {
                 return Answer::Marks(taken);

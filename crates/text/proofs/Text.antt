@@ -1,6 +1,6 @@
 -- Laws of the listing's text: its lines one behind another, and the whole. Assumes nothing.
-use Prim.Native.Nat.{ℕ, _+_, _/_, _%_, _^_, _≤_}
-use mathlib.Core.Path.{_≡_, refl, sym, ap, _∙_}
+use Prim.Native.Nat.{ℕ, _+_, _≤_}
+use mathlib.Core.Path.{_≡_, refl, sym, ap, ap₂, _∙_}
 use mathlib.Core.Bool.{true, false}
 use mathlib.Core.List.{List, [], _++_, append-nil}
 use native.Mathlib.Numerals.{add-one}
@@ -9,8 +9,9 @@ use lib.ListN.{length}
 use lib.Seq.{length-take-le}
 use Rattle.io.specs.Counts.{Counts}
 use Rattle.error.specs.declared.Outcome.{Outcome}
-use Rattle.error.specs.declared.Outcome.the-variants.{Done}
-use Rattle.error.specs.Numbers.{wordOf}
+use Rattle.error.specs.declared.Outcome.the-variants.{Done, Refused}
+use Rattle.error.specs.declared.DpeErrorCode.{DpeErrorCode}
+use Rattle.error.specs.Numbers.{outerOf, innerOf}
 use Rattle.children.specs.Marks.{slotCount}
 use Rattle.wire.specs.Le.{put}
 use Rattle.wire.proofs.Put.{put-nil}
@@ -30,8 +31,7 @@ use Rattle.view.specs.View.{fieldsOf}
 use Rattle.peek_validate.specs.Validate.{validateAt}
 use Rattle.text_row.specs.Row.{verdictLine, rowOf, PutAt}
 use Rattle.text_row.proofs.Row.{put-size}
-use Rattle.text.specs.Text.{outerNumber, innerNumber, lineOf, rowsTo, linesFor, textOf, listingOf}
-use Rattle.text.proofs.Words.{outer-half, inner-half, yes-word, refused-word}
+use Rattle.text.specs.Text.{lineOf, rowsTo, linesFor, textOf, listingOf}
 
 -- ---- one text behind another
 
@@ -64,40 +64,23 @@ pub rows-more : (s : ℕ → Context) (i : ℕ) → rowsTo s i ++ lineOf i (fiel
 unfolding rowsTo
 rows-more s i = sym (rw add-one)
 
--- ---- the listing: o is the verdict, w its word, and a and b the halves of the word
+-- ---- the listing of an image l
 
-module _ (o : Outcome) (w a b : ℕ) (e : w ≡ wordOf o) (p : a ≡ w / 2 ^ 32) (q : b ≡ w % 2 ^ 32) where
-  head-line : verdictLine a b ≡ verdictLine (outerNumber o) (innerNumber o)
-  head-line = rw (p ∙ ap (λ (x : ℕ). x / 2 ^ 32) e ∙ outer-half o, q ∙ ap (λ (x : ℕ). x % 2 ^ 32) e ∙ inner-half o)
-
+module _ (l : List ℕ) where
   -- the first line is the whole listing of a refusal
-  text-refused : (s : ℕ → Context) → (w ≡ 0 → ⊥) → verdictLine a b ≡ textOf o s
-  unfolding textOf linesFor
-  text-refused s n =
-      let r = refused-word o (λ z. n (e ∙ z)) in
-      head-line ∙ sym (append-nil _) ∙ ap (λ (x : List ℕ). verdictLine (outerNumber o) (innerNumber o) ++ x) (sym (ap (λ (x : Outcome). linesFor x s) (r .1)))
+  pub listing-refused : (e : DpeErrorCode) {a b : ℕ} → validateAt l ≡ Refused e → a ≡ outerOf e → b ≡ innerOf e → verdictLine a b ≡ listingOf l
+  unfolding listingOf textOf linesFor
+  listing-refused e q p r =
+      ap₂ verdictLine p r ∙ sym (append-nil _) ∙ sym (ap (λ (o : Outcome). textOf o (slotOf (decodeState l .contexts))) q)
 
   -- and the rows follow it for a yes
-  text-yes : (s : ℕ → Context) → w ≡ 0 → verdictLine a b ++ rowsTo s slotCount ≡ textOf o s
-  unfolding textOf linesFor
-  text-yes s z =
-      let r = yes-word o (sym e ∙ z) in
-      ap (λ (x : List ℕ). x ++ rowsTo s slotCount) head-line
-      ∙ ap (λ (x : List ℕ). verdictLine (outerNumber o) (innerNumber o) ++ x) (sym (ap (λ (x : Outcome). linesFor x s) r))
+  pub listing-yes : validateAt l ≡ Done → verdictLine 0 0 ++ rowsTo (slotOf (decodeState l .contexts)) slotCount ≡ listingOf l
+  unfolding listingOf textOf linesFor
+  listing-yes q = sym (ap (λ (o : Outcome). textOf o (slotOf (decodeState l .contexts))) q)
 
--- the same of the listing of an image l
-module _ (l : List ℕ) (w a b : ℕ) (e : w ≡ wordOf (validateAt l)) (p : a ≡ w / 2 ^ 32) (q : b ≡ w % 2 ^ 32) where
-  pub listing-refused : (w ≡ 0 → ⊥) → verdictLine a b ≡ listingOf l
-  unfolding listingOf
-  listing-refused n = text-refused (validateAt l) w a b e p q (slotOf (decodeState l .contexts)) n
-
-  pub listing-yes : w ≡ 0 → verdictLine a b ++ rowsTo (slotOf (decodeState l .contexts)) slotCount ≡ listingOf l
-  unfolding listingOf
-  listing-yes z = text-yes (validateAt l) w a b e p q (slotOf (decodeState l .contexts)) z
-
--- what has a yes is as long as an image
-pub yes-size : (l : List ℕ) (w : ℕ) → w ≡ wordOf (validateAt l) → w ≡ 0 → length l ≡ stateSize
-yes-size l w e z = readable-size l (first-done (readableOf l) (outcomeOf (verdictOf (decodeState l))) (yes-word (validateAt l) (sym e ∙ z)) .0)
+  -- what has a yes is as long as an image
+  pub yes-size : validateAt l ≡ Done → length l ≡ stateSize
+  yes-size q = readable-size l (first-done (readableOf l) (outcomeOf (verdictOf (decodeState l))) q .0)
 
 -- the listing of a table's image is that of the table
 pub listing-written : (t : State) → Fits t → listingOf (encodeState t) ≡ textOf (outcomeOf (verdictOf t)) (slotOf (t .contexts))

@@ -1,10 +1,11 @@
 // The listing of an image as bytes, line by line: each function puts its text into the lent buffer from a place on, and answers the place behind it.
 use children::MAX_HANDLES;
+use error::Outcome;
 use text_row::ROW_MOST;
 use text_row::VERDICT_MOST;
 use view::SlotFields;
 ghost use mathlib.Core.Path.{_≡_};
-ghost use Prim.Native.Nat.{_+_, _*_, _/_, _%_, _^_, _<_, _≤_};
+ghost use Prim.Native.Nat.{_+_, _*_, _<_, _≤_};
 ghost use lib.ListN.{length};
 ghost use Rattle.io.specs.Counts.{Counts};
 ghost use Rattle.children.specs.Marks.{slotCount};
@@ -16,20 +17,6 @@ ghost use Rattle.text.specs.Text.{lineOf, rowsTo, listingOf};
 
 // The most bytes of a listing.
 pub const LISTING_SIZE: usize = VERDICT_MOST + ROW_MOST * MAX_HANDLES;
-
-// The high half of an ending's word: the outer number.
-fn high_half(word: u64) -> u32
-    ensures { λ r. ⌜ r ≡ word / 2 ^ 32 ⌝ }
-{
-    (word / 0x1_0000_0000) as u32
-}
-
-// The low half: the inner number.
-fn low_half(word: u64) -> u32
-    ensures { λ r. ⌜ r ≡ word % 2 ^ 32 ⌝ }
-{
-    (word % 0x1_0000_0000) as u32
-}
 
 // The line of a slot, where it is live.
 fn put_line(out: &mut [u8], at: usize, slot: usize, f: SlotFields) -> usize
@@ -64,10 +51,11 @@ pub fn list(image: &[u8], out: &mut [u8; LISTING_SIZE]) -> usize
     ensures { λ _. ⌜ now (out .exit) ≡ put 0 (listingOf (now (image .entry))) (now (out .entry)) ⌝ }
     ensures { λ r. ⌜ Counts r (now (out .exit)) ⌝ }
 {
-    let word = error::word(peek_validate::validate_image(image));
-    let a = text_row::put_verdict(out, high_half(word), low_half(word));
-    if word != 0 {
-        return a;
+    match peek_validate::validate_image(image) {
+        Outcome::Done => {
+            let a = text_row::put_verdict(out, 0, 0);
+            put_rows(image, out, a)
+        }
+        Outcome::Refused(e) => text_row::put_verdict(out, error::outer(e), error::inner(e)),
     }
-    put_rows(image, out, a)
 }

@@ -55,7 +55,7 @@ use Rattle.walks.proofs.descendants.get_descendants.Reads as walks-descendants-
 use Rattle.walks_path.proofs.byte.Reads as walks-path-byte-reads
 use Rattle.walks.proofs.why.Reads as walks-why-reads
 use Rattle.walks_path.proofs.root_to_leaf.Reads as walks-path-root-to-leaf-reads
-use Rattle.walks_run.proofs.index.Reads as walks-run-index-reads
+use Rattle.links.proofs.index.Reads as links-index-reads
 use Rattle.walks_run.proofs.run_above.Reads as walks-run-run-above-reads
 use Rattle.wire.proofs.read_u16.Reads as wire-read-u16-reads
 use Rattle.wire.proofs.read_u32.Reads as wire-read-u32-reads
@@ -100,7 +100,6 @@ use Rattle.validation_localities.proofs.localities_test.Reads as validation-loc
 use Rattle.validation_slots.proofs.context_test.Reads as validation-slots-context-test-reads
 use Rattle.validation_slots.proofs.slots_test.Reads as validation-slots-slots-test-reads
 use Rattle.validation_trees.proofs.trees_test.Reads as validation-trees-trees-test-reads
-use Rattle.clearing.proofs.cleared_slot.Reads as clearing-cleared-slot-reads
 use Rattle.clearing.proofs.cleared.Reads as clearing-cleared-reads
 use Rattle.destroy_context.proofs.destroy_slot.Reads as destroy-context-destroy-slot-reads
 use Rattle.destroy_context.proofs.destroy_context.Reads as destroy-context-destroy-context-reads
@@ -120,7 +119,6 @@ use Rattle.peek_walks.proofs.down.descend.Reads as peek-down-descend-reads
 use Rattle.peek_walks.proofs.down.get_descendants.Reads as peek-down-get-descendants-reads
 use Rattle.peek_walks.proofs.path.root_to_leaf.Reads as peek-path-root-to-leaf-reads
 use Rattle.peek_walks.proofs.up.run_above.Reads as peek-up-run-above-reads
-use Rattle.peek_validate.proofs.validate_dpe.Reads as peek-validate-validate-dpe-reads
 use Rattle.peek_validate.proofs.validate_image.Reads as peek-validate-validate-image-reads
 use Rattle.place_initialize.proofs.initialize_context.Reads as place-initialize-initialize-context-reads
 use Rattle.place_rotate.proofs.rotate_context.Reads as place-rotate-rotate-context-reads
@@ -310,8 +308,8 @@ walks-why κ a r r′ s s′ = one
 pub walks-path-root-to-leaf : OneResult walks-path-root-to-leaf-reads.Post
 walks-path-root-to-leaf κ a r r′ s s′ = one
 
-pub walks-run-index : OneResult walks-run-index-reads.Post
-walks-run-index κ a r r′ s s′ = one
+pub links-index : OneResult links-index-reads.Post
+links-index κ a r r′ s s′ = one
 
 pub walks-run-run-above : OneResult walks-run-run-above-reads.Post
 walks-run-run-above κ a r r′ s s′ = one
@@ -439,9 +437,6 @@ validation-slots-slots-test κ a r r′ s s′ = one
 pub validation-trees-trees-test : OneResult validation-trees-trees-test-reads.Post
 validation-trees-trees-test κ a r r′ s s′ = one
 
-pub clearing-cleared-slot : OneResult clearing-cleared-slot-reads.Post
-clearing-cleared-slot κ a r r′ s s′ = one
-
 pub clearing-cleared : OneResult clearing-cleared-reads.Post
 clearing-cleared κ a r r′ s s′ = one
 
@@ -498,9 +493,6 @@ peek-path-root-to-leaf κ a r r′ s s′ p q = (one (p .0) (q .0), one (p .1) (
 
 pub peek-up-run-above : OneResult peek-up-run-above-reads.Post
 peek-up-run-above κ a r r′ s s′ = one
-
-pub peek-validate-validate-dpe : OneResult peek-validate-validate-dpe-reads.Post
-peek-validate-validate-dpe κ a r r′ s s′ = one
 
 pub peek-validate-validate-image : OneResult peek-validate-validate-image-reads.Post
 peek-validate-validate-image κ a r r′ s s′ = one

@@ -31,12 +31,12 @@ fn parent_of(parents: &[u8; MAX_HANDLES], live: u64, slot: usize) -> Found
     }
     let p = parents[slot];
     if p == ROOT_INDEX {
-        return Found::At(walks_run::index(p));
+        return Found::At(links::index(p));
     }
-    if walks_run::index(p) >= MAX_HANDLES {
+    if links::index(p) >= MAX_HANDLES {
         return Found::Refused(DpeErrorCode::InvalidHandle);
     }
-    Found::At(walks_run::index(p))
+    Found::At(links::index(p))
 }
 
 // How many slots the path to a slot has.
@@ -49,7 +49,7 @@ fn length(parents: &[u8; MAX_HANDLES], live: u64, slot: usize) -> Found
         let Found::At(p) = f else {
             return f;
         };
-        if p == walks_run::index(ROOT_INDEX) {
+        if p == links::index(ROOT_INDEX) {
             return Found::At(j + 1);
         }
         x = p;
@@ -77,7 +77,7 @@ fn laid(parents: &[u8; MAX_HANDLES], slot: usize, k: usize) -> [u8; MAX_HANDLES]
     let mut x = slot;
     for j in 0..k {
         slots[k - 1 - j] = byte(x);
-        x = walks_run::index(parents[x]);
+        x = links::index(parents[x]);
     }
     slots
 }

@@ -11,12 +11,6 @@ ghost use Rattle.children.specs.Marks.{slotCount, marked};
 ghost use Rattle.links.specs.Summary.{numberIn};
 ghost use Rattle.walks_run.specs.Run.{runFrom};
 
-pub fn index(x: u8) -> usize
-    ensures { λ r. ⌜ r ≡ x ⌝ }
-{
-    x as usize
-}
-
 // The run from the slot p upward, as marks.
 pub fn run_above(
     children: &[u64; MAX_HANDLES],
@@ -29,7 +23,7 @@ pub fn run_above(
     let mut taken = children::empty();
     let mut p = start;
     for d in 0..MAX_HANDLES {
-        let i = index(p);
+        let i = links::index(p);
         if i >= MAX_HANDLES {
             if p == ROOT_INDEX {
                 return Answer::Marks(taken);

@@ -1,19 +1,18 @@
--- The halves of an ending's word are the numbers of the first line, and the word is 0 for a yes alone. Assumes nothing.
+-- An ending's word tells its numbers: the halves of a refusal's word are its two numbers, and the word is 0 for success alone. Assumes nothing.
 use Prim.Native.Nat.{ℕ, _+_, _*_, _/_, _%_, _^_, _<_}
 use mathlib.Core.Path.{_≡_, refl}
 use native.Mathlib.Omega.{arith}
 use Rattle.error.specs.declared.InternalErrorCode.{InternalErrorCode}
 use Rattle.error.specs.declared.InternalErrorCode.the-variants.{HandleGenerationExhausted, ChildIndexOob, ChildrenBitmapIndexOob, ContextIndexOob, TciNodeCountExceeded, DestroyParentIndexOob}
 use Rattle.error.specs.declared.ValidationError.{ValidationError}
 use Rattle.error.specs.declared.ValidationError.the-variants.{MultipleNormalConnectedComponents, CyclesInTree, InactiveContextInvalidParent, InactiveContextWithChildren, BadContextState, BadContextType, InactiveContextWithMeasurement, MixedContextLocality, MultipleDefaultContexts, SimulationNotSupported, ParentDoesNotExist, InternalDiceNotSupported, InternalInfoNotSupported, ChildDoesNotExist, InactiveContextWithFlagSet, LocalityMismatch, DanglingRetiredContext, MixedContextTypeConnectedComponents, ChildWithMultipleParents, ParentChildLinksCorrupted, AllowCaNotSupported, AllowX509NotSupported, InactiveParent, InactiveChild, DpeNotMarkedInitialized, InvalidMarker, VersionMismatch}
 use Rattle.error.specs.declared.AddedErrorCode.{AddedErrorCode}
 use Rattle.error.specs.declared.AddedErrorCode.the-variants.{BadLength, WalkLoops, CandidatesShort}
 use Rattle.error.specs.declared.DpeErrorCode.{DpeErrorCode}
 use Rattle.error.specs.declared.DpeErrorCode.the-variants.{InternalError, InvalidCommand, InvalidArgument, InvalidHandle, InvalidLocality, ArgumentNotSupported, MaxTcis, Validation, Added}
 use Rattle.error.specs.declared.Outcome.{Outcome}
 use Rattle.error.specs.declared.Outcome.the-variants.{Done, Refused}
 use Rattle.error.specs.Numbers.{outerOf, internalOf, validationOf, addedOf, innerOf, wordOf}
-use Rattle.text.specs.Text.{outerNumber, innerNumber}
 
 -- an inner number fits the low half
 
@@ -74,19 +73,12 @@ numbers (Added x) = (omega arith, added-small x)
 halves : (a b : ℕ) → b < 2 ^ 32 → ((a * 2 ^ 32 + b) / 2 ^ 32 ≡ a) × ((a * 2 ^ 32 + b) % 2 ^ 32 ≡ b)
 halves a b h = (omega arith, omega arith)
 
-pub outer-half : (o : Outcome) → wordOf o / 2 ^ 32 ≡ outerNumber o
-outer-half Done = refl
-outer-half (Refused e) = halves (outerOf e) (innerOf e) (numbers e .1) .0
+pub outer-half : (e : DpeErrorCode) → wordOf (Refused e) / 2 ^ 32 ≡ outerOf e
+outer-half e = halves (outerOf e) (innerOf e) (numbers e .1) .0
 
-pub inner-half : (o : Outcome) → wordOf o % 2 ^ 32 ≡ innerNumber o
-inner-half Done = refl
-inner-half (Refused e) = halves (outerOf e) (innerOf e) (numbers e .1) .1
+pub inner-half : (e : DpeErrorCode) → wordOf (Refused e) % 2 ^ 32 ≡ innerOf e
+inner-half e = halves (outerOf e) (innerOf e) (numbers e .1) .1
 
--- the word of a yes, and that of a refusal
-pub yes-word : (o : Outcome) → wordOf o ≡ 0 → o ≡ Done
-yes-word Done z = refl
-yes-word (Refused e) z = absurd (omega (arith, numbers e .0))
-
-pub refused-word : (o : Outcome) → (wordOf o ≡ 0 → ⊥) → (e : DpeErrorCode) × (o ≡ Refused e)
-refused-word Done n = absurd (n refl)
-refused-word (Refused e) n = (e, refl)
+pub success-alone : (o : Outcome) → wordOf o ≡ 0 → o ≡ Done
+success-alone Done z = refl
+success-alone (Refused e) z = absurd (omega (arith, numbers e .0))
