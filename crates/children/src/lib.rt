@@ -1,4 +1,6 @@
 // Marks of slots, held as a plain u64: bit k of the word marks slot k. `Children` of context.rs.
+#![tactic(auto)]
+
 ghost use Rattle.std.specs.Prelude.{◌≡◌, not, ◌≤◌, ◌<◌, eqb};
 ghost use Rattle.std.specs.Int.Count.{count_trailing_zeros};
 ghost use Rattle.children.specs.Marks.{slot_count, mark_count, has_below, with, joined, without, with_if, count_below, next_below, add_child_of};
@@ -12,7 +14,7 @@ pub const MAX_HANDLES: usize = 32;
 const SLOT_MARKS: u64 = 0xffff_ffff;
 
 // Marks, or a refusal.
-#[derive(Drop)]
+#[derive(Clone, Copy)]
 pub enum Answer {
     Marks(u64),
     Refused(DpeErrorCode),

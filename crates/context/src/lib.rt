@@ -1,4 +1,6 @@
 // One context of the table: its types, and what is done to it. context.rs; the modules are its measurements (tci.rs) and boolean bytes.
+#![tactic(auto)]
+
 pub mod tci;
 pub mod u8bool;
 
@@ -13,7 +15,7 @@ use error::{DpeErrorCode, InternalErrorCode};
 // The parent of a context that has none.
 pub const ROOT_INDEX: u8 = 0xff;
 
-#[derive(Drop)]
+#[derive(Clone, Copy)]
 pub enum ContextState {
     // Not in use.
     Inactive,
@@ -23,13 +25,13 @@ pub enum ContextState {
     Retired,
 }
 
-#[derive(Drop)]
+#[derive(Clone, Copy)]
 pub enum ContextType {
     Normal,
     Simulation,
 }
 
-#[derive(Drop)]
+#[derive(Clone, Copy)]
 pub struct Context {
     pub handle: [u8; handle::SIZE],
     pub tci: TciNodeData,
@@ -47,7 +49,7 @@ pub struct Context {
     pub allow_recursive: u8,
 }
 
-#[derive(Drop)]
+#[derive(Clone, Copy)]
 pub struct ActiveContextArgs {
     pub context_type: ContextType,
     pub locality: u32,

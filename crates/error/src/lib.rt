@@ -1,9 +1,11 @@
 // The refusals of every call, and the numbers that a caller gets back: error.rs and the enum of validation.rs.
+#![tactic(auto)]
+
 ghost use Rattle.std.specs.Prelude.{◌≡◌};
 ghost use Rattle.error.specs.Numbers.{outer_of, inner_of, internal_of, validation_of, added_of, word_of};
 
 // Something that should never occur in a sound table.
-#[derive(Drop)]
+#[derive(Clone, Copy)]
 pub enum InternalErrorCode {
     HandleGenerationExhausted,
     ChildIndexOob,
@@ -14,7 +16,7 @@ pub enum InternalErrorCode {
 }
 
 // A fault of the table; the bad state and type bytes come from reading an image only.
-#[derive(Drop)]
+#[derive(Clone, Copy)]
 pub enum ValidationError {
     MultipleNormalConnectedComponents,
     CyclesInTree,
@@ -46,7 +48,7 @@ pub enum ValidationError {
 }
 
 // The refusals that the Rust has no number for.
-#[derive(Drop)]
+#[derive(Clone, Copy)]
 pub enum AddedErrorCode {
     BadLength,
     WalkLoops,
@@ -54,7 +56,7 @@ pub enum AddedErrorCode {
 }
 
 // A refusal: three cases carry an inner enum.
-#[derive(Drop)]
+#[derive(Clone, Copy)]
 pub enum DpeErrorCode {
     InternalError(InternalErrorCode),
     InvalidCommand,
@@ -68,7 +70,7 @@ pub enum DpeErrorCode {
 }
 
 // How a call ends.
-#[derive(Drop)]
+#[derive(Clone, Copy)]
 pub enum Outcome {
     Done,
     Refused(DpeErrorCode),

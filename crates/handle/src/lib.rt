@@ -1,4 +1,6 @@
 // The handle of a context, 16 bytes. `ContextHandle` of context.rs.
+#![tactic(auto)]
+
 ghost use Rattle.std.specs.Prelude.{◌≡◌};
 ghost use Rattle.handle.specs.Handle.{same_bytes, is_default, default_handle, invalid_handle};
 

@@ -13,7 +13,7 @@ pub const MAGIC: u32 = 0x4450_4553;
 
 pub const VERSION: u32 = 1;
 
-#[derive(Drop)]
+#[derive(Clone, Copy)]
 pub struct State {
     pub marker: u32,
     pub version: u32,
@@ -25,14 +25,14 @@ pub struct State {
 }
 
 // A slot, or a refusal.
-#[derive(Drop)]
+#[derive(Clone, Copy)]
 pub enum Found {
     At(usize),
     Refused(DpeErrorCode),
 }
 
 // What initialise and rotate answer: how it ended, the new handle, all zero for a refusal, and the table.
-#[derive(Drop)]
+#[derive(Clone, Copy)]
 pub struct NewHandle {
     pub answer: Outcome,
     pub handle: [u8; handle::SIZE],

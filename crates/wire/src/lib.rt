@@ -1,4 +1,6 @@
 // Little-endian numbers and runs of bytes at an offset of a slice.
+#![tactic(auto)]
+
 ghost use Rattle.std.specs.Prelude.{◌≡◌, ◌+◌, ◌≤◌, length};
 ghost use Rattle.wire.specs.Le.{part, le, le_bytes, put};
 
@@ -79,7 +81,7 @@ pub fn read_16(s: &[u8], at: usize) -> [u8; 16]
 {
     let mut a = [0u8; 16];
     let e = at + 16;
-    bytes::copy(&s[at..e], &mut a);
+    a.copy_from_slice(&s[at..e]);
     a
 }
 
@@ -90,7 +92,7 @@ pub fn read_48(s: &[u8], at: usize) -> [u8; 48]
 {
     let mut a = [0u8; 48];
     let e = at + 48;
-    bytes::copy(&s[at..e], &mut a);
+    a.copy_from_slice(&s[at..e]);
     a
 }
 
@@ -100,5 +102,5 @@ pub fn write_run(out: &mut [u8], at: usize, v: &[u8])
     ensures { out.new ≡ put at v.now out.old }
 {
     let e = at + v.len();
-    bytes::copy(v, &mut out[at..e]);
+    out[at..e].copy_from_slice(v);
 }
