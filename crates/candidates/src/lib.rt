@@ -1,4 +1,6 @@
 // The choice of a new handle among lent candidates. `generate_new_handle` of dpe_instance.rs, with a buffer in place of the crypto service.
+#![tactic(auto)]
+
 ghost use Rattle.std.specs.Prelude.{◌≡◌, ◌+◌, ◌*◌, ◌≤◌, length};
 ghost use Rattle.children.specs.Marks.{slot_count};
 ghost use Rattle.handle.specs.Handle.{handle_size, same_bytes};
@@ -14,7 +16,7 @@ use table::state::State;
 pub const MAX_NEW_HANDLE_ATTEMPTS: usize = 8;
 
 // How the choice ended, and the handle that was taken, all zero for a refusal.
-#[derive(Drop)]
+#[derive(Clone, Copy)]
 pub struct Chosen {
     pub answer: Outcome,
     pub handle: [u8; handle::SIZE],

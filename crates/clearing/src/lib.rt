@@ -1,4 +1,6 @@
 // The slots of a set cleared, and their marks taken from every slot. destroy_context.rs.
+#![tactic(auto)]
+
 ghost use Rattle.std.specs.Prelude.{◌≡◌, ◌<◌};
 ghost use Rattle.children.specs.Marks.{slot_count};
 ghost use Rattle.clearing.specs.Clearing.{cleared_slot, cleared_by};

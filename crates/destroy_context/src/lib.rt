@@ -1,4 +1,6 @@
 // Destroy: a context goes, with all that is below it and the retired run above it. destroy_context.rs.
+#![tactic(auto)]
+
 ghost use Rattle.std.specs.Prelude.{◌≡◌};
 ghost use Rattle.children.specs.Marks.{slot_count, marked};
 ghost use Rattle.links.specs.Summary.{number_in};
@@ -11,7 +13,7 @@ use table::state::{Found, State};
 use walks::descendants;
 
 // How a destroy ended, and the table.
-#[derive(Drop)]
+#[derive(Clone, Copy)]
 pub struct Destroyed {
     pub answer: Outcome,
     pub state: State,

@@ -1,4 +1,6 @@
 // Who is below whom, in a few words: the summary of a table that the walks and the validator run over. Added; the Rust has none.
+#![tactic(auto)]
+
 ghost use Rattle.std.specs.Prelude.{◌≡◌};
 ghost use Rattle.context.specs.Context.{slot_of};
 ghost use Rattle.links.specs.Summary.{summary_of};
@@ -6,7 +8,7 @@ ghost use Rattle.links.specs.Summary.{summary_of};
 use children::MAX_HANDLES;
 use table::state::State;
 
-#[derive(Drop)]
+#[derive(Clone, Copy)]
 pub struct Links {
     pub children: [u64; MAX_HANDLES],
     pub parents: [u8; MAX_HANDLES],

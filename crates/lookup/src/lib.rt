@@ -1,4 +1,6 @@
 // The lookup of an active context by handle and locality. `get_active_context_pos` of state.rs.
+#![tactic(auto)]
+
 ghost use Rattle.std.specs.Prelude.{◌≡◌};
 ghost use Rattle.children.specs.Marks.{slot_count};
 ghost use Rattle.context.specs.Context.{slot_of};

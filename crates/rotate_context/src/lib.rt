@@ -1,4 +1,6 @@
 // Rotate the handle of a context. rotate_context.rs.
+#![tactic(auto)]
+
 ghost use Rattle.std.specs.Prelude.{◌≡◌, not, ◌&&◌, ◌||◌, ◌<◌};
 ghost use Rattle.children.specs.Marks.{slot_count};
 ghost use Rattle.handle.specs.Handle.{is_default};

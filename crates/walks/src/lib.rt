@@ -1,5 +1,7 @@
 // The walk over the links of a table down to all descendants. state.rs.
 // It runs over the summary of the links, from mark to mark, and ends on every table.
+#![tactic(auto)]
+
 pub mod descendants;
 
 ghost use Rattle.std.specs.Prelude.{◌≡◌};

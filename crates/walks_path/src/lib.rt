@@ -1,5 +1,7 @@
 // The path: the slots from a root down to a slot. `RootToChildIter` of context.rs.
 // It runs over the summary of the links, and ends on every table.
+#![tactic(auto)]
+
 ghost use Rattle.std.specs.Prelude.{◌≡◌, ◌<◌};
 ghost use Rattle.children.specs.Marks.{slot_count, marked};
 ghost use Rattle.context.specs.Context.{slot_of};
@@ -12,7 +14,7 @@ use error::{DpeErrorCode, InternalErrorCode};
 use table::state::{Found, State};
 
 // A path: how many slots it has, or why there is none; and the slots from the root on, 0 after the last.
-#[derive(Drop)]
+#[derive(Clone, Copy)]
 pub struct Path {
     pub length: Found,
     pub slots: [u8; MAX_HANDLES],

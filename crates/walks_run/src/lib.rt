@@ -1,5 +1,7 @@
 // The run above a slot: the retired slots with one child each, upward without a break. destroy_context.rs.
 // It runs over the summary of the links, and ends on every table.
+#![tactic(auto)]
+
 ghost use Rattle.std.specs.Prelude.{◌≡◌};
 ghost use Rattle.children.specs.Marks.{slot_count, marked};
 ghost use Rattle.links.specs.Summary.{number_in};
