@@ -1,4 +1,6 @@
 // The validator of the context table: its tests in order. validation.rs.
+#![tactic(auto)]
+
 ghost use Rattle.std.specs.Prelude.{◌≡◌};
 ghost use Rattle.verdict.specs.Tests.{verdict_of};
 

@@ -1,4 +1,6 @@
 // The validator's tests of what one context holds by itself. validation.rs.
+#![tactic(auto)]
+
 ghost use Rattle.std.specs.Prelude.{◌≡◌, replicate};
 ghost use Rattle.handle.specs.Handle.{same_bytes};
 ghost use Rattle.context.specs.Bytes.{tci_size};

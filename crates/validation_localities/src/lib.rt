@@ -1,4 +1,6 @@
 // The validator's tests of the localities. validation.rs.
+#![tactic(auto)]
+
 ghost use Rattle.std.specs.Prelude.{◌≡◌, ◌<◌};
 ghost use Rattle.children.specs.Below.{some};
 ghost use Rattle.children.specs.Marks.{slot_count, mark_count, marked};
@@ -13,7 +15,7 @@ use table::state::State;
 use verdict::Verdict;
 
 // Who is where.
-#[derive(Drop)]
+#[derive(Clone, Copy)]
 pub struct Places {
     pub localities: [u32; MAX_HANDLES],
     // The active contexts that are defaults, and that are not, as marks.

@@ -1,4 +1,6 @@
 // The validator's tests of one slot after the other. validation.rs.
+#![tactic(auto)]
+
 ghost use Rattle.std.specs.Prelude.{◌≡◌, not, ◌<◌, ◌/◌, ◌^◌, eqb};
 ghost use Rattle.children.specs.Marks.{slot_count, mark_count, marked};
 ghost use Rattle.context.specs.Context.{slot_of};

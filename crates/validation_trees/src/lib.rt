@@ -1,4 +1,6 @@
 // The validator's tests of the forest: types below each root, Normal roots, cycles. validation.rs.
+#![tactic(auto)]
+
 ghost use Rattle.std.specs.Prelude.{◌≡◌, [], ◌<◌};
 ghost use Rattle.children.specs.Below.{count, every};
 ghost use Rattle.children.specs.Marks.{slot_count};
@@ -12,7 +14,7 @@ use error::ValidationError;
 use verdict::Verdict;
 
 // What a search answers: the slots seen so far, or why it ends.
-#[derive(Drop)]
+#[derive(Clone, Copy)]
 pub enum Search {
     Seen(u64),
     Flaw(ValidationError),
