@@ -1,10 +1,9 @@
 -- What owning a table tells: it fits. Assumes nothing.
-use mathlib.Core.Path.{sym, ◌∙◌}
-use mathlib.Core.List.{List, [], ◌∷◌, map}
+use mathlib.Core.List.{List, [], ◌∷◌}
 use Prim.Native.Nat.{ℕ, zero, suc, ◌<◌}
 use native.Mathlib.Nat.{le_of_suc-le-suc, not-suc-le-zero}
 use native.Mathlib.Omega.{arith}
-use lib.ListN.{length, length-map}
+use lib.ListN.{length}
 use mir.Val.{Val}
 use denote.Laws.{Is}
 use denote.Shadow.{shadow}
@@ -20,7 +19,7 @@ use Rattle.image_context.specs.Fits.{FitsContext}
 use Rattle.image_context.proofs.Owned.{context_fits}
 use Rattle.image.specs.Fits.{Fits}
 
-contexts_fit : (cs : List Context) (us : List Val) → shadow (each (context.the_field).row.Denot (context.the_field).row.own_val (map (context.the_field).into cs) us)
+contexts_fit : (cs : List Context) (us : List Val) → shadow (each context.the_row.Denot context.the_row.own_val cs us)
     → (i : ℕ) → i < length cs → FitsContext (slot_of cs i)
 contexts_fit [] us p i lt = absurd (not-suc-le-zero lt)
 contexts_fit (c ∷ cs) [] p i lt = absurd p
@@ -31,7 +30,7 @@ contexts_fit (c ∷ cs) (u ∷ us) p (suc i) lt = contexts_fit cs us p.1 i (le_o
 pub owned_fits : (t : State) (vs : List Val) → Is the_row t vs → Fits t
 owned_fits t vs g =
     let o = owed the_type the_laws t vs g in
-    let n = sym (length-map t.contexts _) ∙ o.1.1.0.1.0.1 in record {
+    let n = o.1.1.0.1.0.1 in record {
       marker = o.0.1;
       version = o.1.0.1;
       slots = n;

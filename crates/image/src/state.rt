@@ -26,7 +26,7 @@ pub const RESERVED_AT: usize = SUPPORT_AT + 7;
 pub const SIZE: usize = SUPPORT_AT + 8;
 
 // What reading gives: how it ended, and the table, which is that of all zero bytes for a refusal.
-#[derive(Drop)]
+#[derive(Clone, Copy)]
 pub struct StateRead {
     pub answer: Outcome,
     pub state: State,

@@ -1,4 +1,6 @@
 // One context of the state image, by the offsets of document 01: 144 bytes, and reading it. Added; the Rust has none.
+#![tactic(auto)]
+
 ghost use Rattle.std.specs.Prelude.{◌≡◌, length};
 ghost use Rattle.image_kinds.specs.Kinds.{context_size};
 ghost use Rattle.image_context.specs.Context.{state_of, type_of, decode_tci, decode_context, blank_context};

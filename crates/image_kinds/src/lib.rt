@@ -1,4 +1,6 @@
 // The state byte and the type byte of a context of the image, and what reading them answers. Added; the Rust has none.
+#![tactic(auto)]
+
 ghost use Rattle.std.specs.Prelude.{◌≡◌, ◌+◌, ◌≤◌, length};
 ghost use Rattle.wire.specs.Le.{part};
 ghost use Rattle.image_kinds.specs.Kinds.{context_size, state_answer, type_answer, first, context_answer, kind_word, good_word};

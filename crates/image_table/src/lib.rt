@@ -1,4 +1,6 @@
 // The table of an image, read and written whole, by value. Added; the Rust has none.
+#![tactic(auto)]
+
 ghost use Rattle.std.specs.Prelude.{◌≡◌, length};
 ghost use Rattle.children.specs.Below.{list_of};
 ghost use Rattle.children.specs.Marks.{slot_count};

@@ -1,4 +1,6 @@
 // A context written into its 144 bytes of the state image. Added; the Rust has none.
+#![tactic(auto)]
+
 ghost use Rattle.std.specs.Prelude.{◌≡◌, length};
 ghost use Rattle.wire.specs.Le.{put};
 ghost use Rattle.image_kinds.specs.Kinds.{context_size};

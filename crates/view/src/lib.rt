@@ -1,6 +1,7 @@
 // A view of the lent image: the fields of a slot, read where they lie. No context is built.
-// `fields_at` does the work on the slice; the functions over the struct only take it apart or make it, and are proved by hand. Whoever calls
-// `slot_fields` has plain parameters, and needs no such proof.
+// `fields_at` does the work on the slice; the functions over the struct only take it apart or make it.
+#![tactic(auto)]
+
 ghost use Rattle.std.specs.Prelude.{◌≡◌, ◌<◌, length};
 ghost use Rattle.children.specs.Marks.{slot_count};
 ghost use Rattle.image.specs.State.{state_size, slot_in};
@@ -10,13 +11,13 @@ use context::{ContextState, ContextType};
 use image::state;
 
 // A lent image.
-#[derive(Drop)]
+#[derive(Clone, Copy)]
 pub struct View<'a> {
     pub image: &'a [u8],
 }
 
 // The fields of a slot that a listing shows.
-#[derive(Drop)]
+#[derive(Clone, Copy)]
 pub struct SlotFields {
     pub state: ContextState,
     pub context_type: ContextType,

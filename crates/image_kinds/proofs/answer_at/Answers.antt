@@ -1,0 +1,6 @@
+-- `image_kinds::answer_at` meets its contract. Assumes nothing.
+use Rattle.image_kinds.proofs.Answers.{answer-is}
+use Rattle.image_kinds.proofs.answer_at.Goals as goal
+
+pub returns : goal.returns
+returns c = answer-is c.args.image.now c.args.at c.state_answer-s.ensures c.type_answer-t.ensures c.first_of.ensures
