@@ -1,5 +1,7 @@
 // The validator on a lent image, where it lies: no table is built. validation.rs.
 // `validate_dpe` has the name of the one by value, which says what it means.
+#![tactic(auto)]
+
 mod summary;
 
 ghost use Rattle.std.specs.Prelude.{◌≡◌, length};

@@ -1,4 +1,6 @@
 // What every call writes with: one field or one slot of a lent image, written where it lies; all else stays. Added; the Rust has no image.
+#![tactic(auto)]
+
 ghost use Rattle.std.specs.Prelude.{◌<◌, ◌≡◌};
 ghost use Rattle.error.specs.declared.Outcome.TheVariants.{Done};
 ghost use Rattle.children.specs.Marks.{slot_count};

@@ -1,5 +1,7 @@
 // Initialise on a lent image, where it lies: no table is built, and a refusal writes nothing. initialize_context.rs.
 // `initialize_context` has the name of the one by value, which says what it means.
+#![tactic(auto)]
+
 ghost use Rattle.std.specs.Prelude.{◌<◌, ◌≡◌};
 ghost use Rattle.error.specs.declared.Outcome.TheVariants.{Done};
 ghost use Rattle.children.specs.Marks.{slot_count};

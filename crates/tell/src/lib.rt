@@ -1,4 +1,6 @@
 // How an exported call tells its answer: a word, and what goes into a lent place. A refusal leaves the place as it was. Added; the Rust has none.
+#![tactic(auto)]
+
 ghost use Rattle.std.specs.Prelude.{◌≡◌};
 ghost use Rattle.error.specs.Numbers.{word_of};
 ghost use Rattle.image.specs.State.{readable_of};

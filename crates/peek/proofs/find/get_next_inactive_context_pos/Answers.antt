@@ -1,0 +1,40 @@
+-- `peek::find::get_next_inactive_context_pos` meets its contract. Assumes nothing.
+use mathlib.Core.Path.{◌≡◌, sym, ap, ◌∙◌}
+use Prim.Native.Nat.{◌-◌}
+use native.Mathlib.Omega.{arith}
+use Rattle.children.specs.Below.{lowest}
+use Rattle.children.specs.Marks.{slot_count}
+use Rattle.children.proofs.Below.{low-here, low_on, low_end}
+use Rattle.context.specs.Context.{slot_of, is_inactive}
+use Rattle.image.specs.State.{decode_state}
+use Rattle.table.specs.State.{idle_at}
+use Rattle.table.proofs.Slots.{free-at, free_none}
+use Rattle.view.specs.declared.SlotFields.{SlotFields}
+use Rattle.peek.proofs.Read.{fields_read}
+use Rattle.peek.proofs.find.get_next_inactive_context_pos.Goals as goal
+
+pub returns-then-is_inactive : goal.returns-then-is_inactive
+returns-then-is_inactive c =
+    let l = c.loop-i in
+    let a = c.args in
+    let p = idle_at (slot_of (decode_state a.image.now).contexts) in
+    let f = c.fields_at-f in
+    let idle = c.is_inactive.ensures ∙ ap (λ (x : SlotFields). is_inactive x.state) (fields_read a.image.now l.i (omega arith) f.result f.ensures) in
+    let e : lowest p slot_count ≡ l.i = sym l.invariant.1 ∙ low-here p slot_count l.i (omega arith) (sym idle ∙ c.if-is_inactive.true) in
+    free-at _ _ l.i e (omega arith)
+
+pub loop-i-preserved : goal.loop-i-preserved
+loop-i-preserved c =
+    let l = c.loop-i in
+    let a = c.args in
+    let p = idle_at (slot_of (decode_state a.image.now).contexts) in
+    let f = c.fields_at-f in
+    let idle = c.is_inactive.ensures ∙ ap (λ (x : SlotFields). is_inactive x.state) (fields_read a.image.now l.i (omega arith) f.result f.ensures) in
+    (omega arith, sym (low_on p slot_count l.i (omega arith) (sym idle ∙ c.if-is_inactive.false)) ∙ l.invariant.1)
+
+pub returns : goal.returns
+returns c =
+    let l = c.loop-i in
+    let p = idle_at (slot_of (decode_state c.args.image.now).contexts) in
+    let e : lowest p slot_count ≡ l.i = sym l.invariant.1 ∙ low_end p slot_count l.i (omega arith) in
+    free_none _ _ (omega arith)

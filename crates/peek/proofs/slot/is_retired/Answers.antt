@@ -1,0 +1,12 @@
+-- `peek::slot::is_retired` meets its contract. Assumes nothing.
+use mathlib.Core.Path.{ap, ◌∙◌}
+use Rattle.view.specs.declared.SlotFields.{SlotFields}
+use Rattle.peek.proofs.Read.{fields_read}
+use Rattle.context.specs.Context.{is_retired}
+use Rattle.peek.proofs.slot.is_retired.Goals as goal
+
+pub returns : goal.returns
+returns c =
+    let f = c.fields_at-f in
+    let e = fields_read c.args.image.now c.args.slot c.requires.1 f.result f.ensures in
+    c.is_retired.ensures ∙ ap (λ (x : SlotFields). is_retired x.state) e

@@ -1,0 +1,22 @@
+-- `place_rotate::is_occupied` meets its contract. Assumes nothing.
+use mathlib.Core.Path.{sym, ◌∙◌}
+use Prim.Native.Nat.{◌-◌}
+use native.Mathlib.Omega.{arith}
+use Rattle.children.specs.Marks.{slot_count}
+use Rattle.context.specs.Context.{slot_of}
+use Rattle.image.specs.State.{decode_state}
+use Rattle.rotate_context.proofs.Rotate.{occupied_none, occupied_on, occupied-here}
+use Rattle.place_rotate.proofs.is_occupied.Goals as goal
+
+pub loop-j-init : goal.loop-j-init
+loop-j-init c = let a = c.args in (omega arith, occupied_none (slot_of (decode_state a.image.now).contexts) a.locality a.target_idx)
+
+pub returns-then-occupies : goal.returns-then-occupies
+returns-then-occupies c =
+    let a = c.args in
+    sym (occupied-here (slot_of (decode_state a.image.now).contexts) a.locality a.target_idx slot_count c.loop-j.j (omega arith) (sym c.occupies.ensures ∙ c.if-occupies.true))
+
+pub loop-j-preserved : goal.loop-j-preserved
+loop-j-preserved c =
+    let a = c.args in
+    (omega arith, occupied_on (slot_of (decode_state a.image.now).contexts) a.locality a.target_idx c.loop-j.j c.loop-j.invariant.1 (sym c.occupies.ensures ∙ c.if-occupies.false))

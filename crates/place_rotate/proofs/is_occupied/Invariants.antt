@@ -1,0 +1,11 @@
+use mathlib.Core.Path.{◌≡◌}
+use mathlib.Core.Bool.{false}
+use Prim.Native.Nat.{◌≤◌, ◌-◌}
+use Rattle.children.specs.Marks.{slot_count}
+use Rattle.context.specs.Context.{slot_of}
+use Rattle.image.specs.State.{decode_state}
+use Rattle.rotate_context.specs.Rotate.{occupied}
+use Rattle.place_rotate.proofs.is_occupied.Given as goal
+
+abbrev pub invariant-loop-j : goal.invariant-loop-j
+invariant-loop-j l = (l.j ≤ slot_count) × (occupied l.j (slot_of (decode_state l.image).contexts) l.locality l.target_idx ≡ false)
