@@ -1,4 +1,6 @@
-// The exported calls, over a lent image of 4,624 bytes, in place. include/duottarok.h says what each asks of its pointers.
+// The calls over a lent image of 4,624 bytes, in place. duottarok_c exports each of them under its name.
+#![tactic(auto)]
+
 ghost use Rattle.std.specs.Prelude.{◌≡◌};
 ghost use Rattle.error.specs.Numbers.{word_of};
 ghost use Rattle.walks_path.specs.Path.{slots_place};
@@ -15,21 +17,14 @@ use peek_walks::{down, path};
 use table::state::Found;
 
 // Whether the table meets the forest rule; else its first fault.
-#[unsafe(no_mangle)]
-pub extern "C" fn dpe_validate(image: &[u8]) -> u64
+pub fn dpe_validate(image: &[u8]) -> u64
     ensures { result ≡ word_of (validate_at image.now) }
 {
     error::word(peek_validate::validate_image(image))
 }
 
 // Finds the active context of a locality that has a handle.
-#[unsafe(no_mangle)]
-pub extern "C" fn dpe_lookup(
-    image: &[u8],
-    handle: &[u8; handle::SIZE],
-    locality: u32,
-    slot: &mut u64,
-) -> u64
+pub fn dpe_lookup(image: &[u8], handle: &[u8; handle::SIZE], locality: u32, slot: &mut u64) -> u64
     ensures value { result ≡ found_word (lookup_at image.now handle.now locality) }
     ensures slot_after { slot.new ≡ found_place (lookup_at image.now handle.now locality) slot.old }
 {
@@ -40,8 +35,7 @@ pub extern "C" fn dpe_lookup(
 }
 
 // Initialises the default context, or a simulation context with a candidate for its handle.
-#[unsafe(no_mangle)]
-pub extern "C" fn dpe_initialize_context(
+pub fn dpe_initialize_context(
     image: &mut [u8],
     flags: u32,
     locality: u32,
@@ -60,8 +54,7 @@ pub extern "C" fn dpe_initialize_context(
 }
 
 // Gives the context with a handle in a locality a new handle: the default one, or a candidate.
-#[unsafe(no_mangle)]
-pub extern "C" fn dpe_rotate_context(
+pub fn dpe_rotate_context(
     image: &mut [u8],
     handle: &[u8; handle::SIZE],
     locality: u32,
@@ -81,12 +74,7 @@ pub extern "C" fn dpe_rotate_context(
 }
 
 // Destroys the context with a handle in a locality, with all below it and the retired run above it.
-#[unsafe(no_mangle)]
-pub extern "C" fn dpe_destroy_context(
-    image: &mut [u8],
-    handle: &[u8; handle::SIZE],
-    locality: u32,
-) -> u64
+pub fn dpe_destroy_context(image: &mut [u8], handle: &[u8; handle::SIZE], locality: u32) -> u64
     ensures value { result ≡ word_of (destroy_at image.old handle.now locality).answer }
     ensures image_after { image.new ≡ destroyed_after (destroy_at image.old handle.now locality) image.old }
 {
@@ -97,8 +85,7 @@ pub extern "C" fn dpe_destroy_context(
 }
 
 // All that is below a slot, as marks.
-#[unsafe(no_mangle)]
-pub extern "C" fn dpe_descendants(image: &[u8], slot: usize, marks: &mut u64) -> u64
+pub fn dpe_descendants(image: &[u8], slot: usize, marks: &mut u64) -> u64
     ensures value { result ≡ marks_word (descendants_at image.now slot) }
     ensures marks_after { marks.new ≡ marks_place (descendants_at image.now slot) marks.old }
 {
@@ -109,13 +96,7 @@ pub extern "C" fn dpe_descendants(image: &[u8], slot: usize, marks: &mut u64) ->
 }
 
 // The slots from a root down to a slot.
-#[unsafe(no_mangle)]
-pub extern "C" fn dpe_path(
-    image: &[u8],
-    slot: usize,
-    slots: &mut [u8; MAX_HANDLES],
-    length: &mut u64,
-) -> u64
+pub fn dpe_path(image: &[u8], slot: usize, slots: &mut [u8; MAX_HANDLES], length: &mut u64) -> u64
     ensures value { result ≡ found_word (length_at image.now slot) }
     ensures slots_after { slots.new ≡ slots_place (length_at image.now slot) (path_at image.now slot).slots slots.old }
     ensures length_after { length.new ≡ found_place (length_at image.now slot) length.old }
@@ -127,8 +108,7 @@ pub extern "C" fn dpe_path(
 }
 
 // How many contexts are in a state: 0 inactive, 1 active, 2 retired.
-#[unsafe(no_mangle)]
-pub extern "C" fn dpe_count(image: &[u8], state: u8, count: &mut u64) -> u64
+pub fn dpe_count(image: &[u8], state: u8, count: &mut u64) -> u64
     ensures value { result ≡ found_word (count_at image.now state) }
     ensures count_after { count.new ≡ found_place (count_at image.now state) count.old }
 {
