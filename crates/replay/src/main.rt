@@ -4,14 +4,18 @@
 // bytes in which the table afterwards differs from that, and the candidates. In the header, numbers little-endian:
 // call 0, state 1, count of bytes before 2 and after 4, bytes of candidates 6, locality 8, flags 12, slot 16,
 // handle 24; and what the Rust answered: word 40, number 48, handle 56, slots of a path 72.
+#![tactic(auto)]
+
 ghost use Rattle.std.specs.Prelude.{◌+◌, ◌<◌, ◌≤◌, length};
+ghost use Rattle.std.specs.Io.{ReadsAtMost};
 
 use duottarok::{
     dpe_count, dpe_descendants, dpe_destroy_context, dpe_initialize_context, dpe_lookup, dpe_path,
     dpe_rotate_context, dpe_validate,
 };
 use image::state;
-use libc::{STDIN_FILENO, STDOUT_FILENO};
+use std::io;
+use std::io::Read;
 use table::state::State;
 
 const INPUT_SIZE: usize = 262144;
@@ -26,7 +30,7 @@ const HANDLE_BYTE: u8 = 0xc3;
 const SLOTS_BYTE: u8 = 0x96;
 
 // The word of a call, and its lent places afterwards.
-#[derive(Drop)]
+#[derive(Clone, Copy)]
 struct Answer {
     word: u64,
     number: u64,
@@ -35,13 +39,13 @@ struct Answer {
 }
 
 // How many bytes a case has, and whether the answer was the Rust's.
-#[derive(Drop)]
+#[derive(Clone, Copy)]
 struct Case {
     size: usize,
     same: bool,
 }
 
-#[derive(Drop)]
+#[derive(Clone, Copy)]
 struct Tally {
     cases: u64,
     differ: u64,
@@ -147,7 +151,7 @@ fn agrees(a: Answer, h: &[u8]) -> bool
     let handle = a.handle;
     let slots = a.slots;
     let numbers = (a.word == wire::read_u64(h, 40)) & (a.number == wire::read_u64(h, 48));
-    numbers & check::same(&handle, &h[56..72]) & check::same(&slots, &h[72..104])
+    numbers & (handle[..] == h[56..72]) & (slots[..] == h[72..104])
 }
 
 // Runs a case on its table, and compares the answer and every byte of the table afterwards.
@@ -162,10 +166,10 @@ fn run(h: &[u8], before: &[u8], after: &[u8], candidates: &[u8]) -> bool
     let call = h[0];
     if (call >= 2) & (call <= 4) {
         let a = act(&mut image, h, candidates);
-        return agrees(a, h) & check::same(&image, &expected);
+        return agrees(a, h) & (image == expected);
     }
     let a = ask(&image, h);
-    agrees(a, h) & check::same(&image, &expected)
+    agrees(a, h) & (image == expected)
 }
 
 // The case that a list starts with. What is cut short differs, and takes the rest.
@@ -202,20 +206,34 @@ fn replay(list: &[u8]) -> Tally {
     while at < list.len() {
         let c = first_case(&list[at..]);
         at += c.size;
-        cases = std::num::wrapping_add_u64(cases, 1);
+        cases = cases.wrapping_add(1);
         if !c.same {
-            differ = std::num::wrapping_add_u64(differ, 1);
+            differ = differ.wrapping_add(1);
         }
     }
     Tally { cases, differ }
 }
 
-fn main() {
+// Fills the buffer from an input.
+fn read_input(input: &mut impl Read, buffer: &mut [u8; INPUT_SIZE]) -> io::Result<usize>
+    ensures { ReadsAtMost result buffer.new }
+{
+    let mut n = 0;
+    while n < INPUT_SIZE {
+        let k = input.read(&mut buffer[n..])?;
+        if k == 0 {
+            break;
+        }
+        n += k;
+    }
+    Ok(n)
+}
+
+fn main(rt: HostRuntime) -> io::Result<()> {
     let mut buffer = [0u8; INPUT_SIZE];
-    let n = io::read_full(STDIN_FILENO, &mut buffer);
+    let n = read_input(&mut rt.reader(), &mut buffer)?;
     let t = replay(&buffer[..n]);
-    io::print_decimal(STDOUT_FILENO, t.cases);
-    io::write_all(STDOUT_FILENO, b" cases, ");
-    io::print_decimal(STDOUT_FILENO, t.differ);
-    io::write_all(STDOUT_FILENO, b" differ\n");
+    let cases = t.cases;
+    let differ = t.differ;
+    println!(rt; "{cases} cases, {differ} differ")
 }

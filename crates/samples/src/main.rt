@@ -1,10 +1,12 @@
 // Writes the sample images to standard output, one after another. samples/ has each in a file of its own, with its listing.
+#![tactic(auto)]
+
 ghost use Rattle.std.specs.Prelude.{◌<◌};
 ghost use Rattle.children.specs.Marks.{slot_count, mark_count};
 
 use children::MAX_HANDLES;
 use context::{ActiveContextArgs, Context, ContextState, ContextType};
-use libc::STDOUT_FILENO;
+use std::io;
 use table::state::State;
 use table::{state, support};
 
@@ -155,41 +157,44 @@ fn chain() -> State {
 }
 
 // Writes the image of a table.
-fn put(t: State) {
+fn put(rt: &impl Print, t: State) -> io::Result<()> {
     let mut image = [0u8; image::state::SIZE];
     image_table::write_state(t, &mut image);
-    io::write_all(STDOUT_FILENO, &image);
+    rt.write_all(&image)
 }
 
 // Writes the image of a table with a state byte that says no state.
-fn put_bad_state(t: State) {
+fn put_bad_state(rt: &impl Print, t: State) -> io::Result<()> {
     let mut image = [0u8; image::state::SIZE];
     image_table::write_state(t, &mut image);
     let at = image::state::CONTEXTS_AT + image_context::SIZE * BAD_SLOT;
     image[at + image_kinds::STATE_AT] = BAD_STATE;
-    io::write_all(STDOUT_FILENO, &image);
+    rt.write_all(&image)
 }
 
 // The samples, by the names that they have in samples/.
-fn main() {
+fn main(rt: HostRuntime) -> io::Result<()> {
     let root = context::ROOT_INDEX;
     // new, one, forest, chain: yes.
-    put(new_table());
-    put(one());
-    put(forest());
-    put(chain());
+    put(&rt, new_table())?;
+    put(&rt, one())?;
+    put(&rt, forest())?;
+    put(&rt, chain())?;
     // cycle: its own parent and its own child.
-    put(table_of(active(ContextType::Normal, 1, 7, 0, mark(0))));
+    put(&rt, table_of(active(ContextType::Normal, 1, 7, 0, mark(0))))?;
     // far-mark: the mark of no slot.
-    put(table_of(active(ContextType::Normal, 1, 7, root, mark(MAX_HANDLES))));
+    put(
+        &rt,
+        table_of(active(ContextType::Normal, 1, 7, root, mark(MAX_HANDLES))),
+    )?;
     // mixed: a default context and another one in its locality.
-    put(one_and(active(ContextType::Simulation, 1, 7, root, 0)));
+    put(&rt, one_and(active(ContextType::Simulation, 1, 7, root, 0)))?;
     // two-roots: two Normal contexts at the root.
-    put(one_and(active(ContextType::Normal, 1, 8, root, 0)));
+    put(&rt, one_and(active(ContextType::Normal, 1, 8, root, 0)))?;
     // dangling: a retired context with no child.
-    put(table_of(retired(ContextType::Normal, 1, 7, root, 0)));
+    put(&rt, table_of(retired(ContextType::Normal, 1, 7, root, 0)))?;
     // marker: not a table's marker.
-    put(State { marker: 0, ..one() });
-    // state_byte_lem: a state byte that says no state.
-    put_bad_state(one());
+    put(&rt, State { marker: 0, ..one() })?;
+    // state-byte: a state byte that says no state.
+    put_bad_state(&rt, one())
 }

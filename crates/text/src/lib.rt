@@ -1,4 +1,6 @@
 // The listing of an image as bytes, line by line: each function puts its text into the lent buffer from a place on, and answers the place behind it.
+#![tactic(auto)]
+
 ghost use Rattle.std.specs.Prelude.{◌≡◌, ◌+◌, ◌*◌, ◌<◌, ◌≤◌, length};
 ghost use Rattle.io.specs.Counts.{IsPrefixLen};
 ghost use Rattle.children.specs.Marks.{slot_count};

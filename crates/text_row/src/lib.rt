@@ -1,4 +1,6 @@
 // The lines of a listing as bytes: each function puts its text into the lent buffer from a place on, and answers the place behind it.
+#![tactic(auto)]
+
 ghost use Rattle.std.specs.Prelude.{◌+◌, ◌<◌, ◌≤◌, length};
 ghost use Rattle.children.specs.Marks.{slot_count};
 ghost use Rattle.text_row.specs.Row.{number_then, verdict_line, row_of, PutAt, number_most, verdict_most, row_most};

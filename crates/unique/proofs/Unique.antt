@@ -1,5 +1,5 @@
 -- For every public function: no second result fits its contract, and no second content of a lent place. Proved once in general, and applied to each
--- contract as the checker reads it. docs/THEOREMS.md lists the functions that are proved by hand and have no such reading. Assumes nothing.
+-- contract as the checker reads it. docs/THEOREMS.md lists the functions that are not among them. Assumes nothing.
 use mathlib.Core.Path.{◌≡◌, sym, ◌∙◌}
 use Rattle.error.proofs.internal.Reads as error-internal-reads
 use Rattle.error.proofs.validation.Reads as error-validation-reads
