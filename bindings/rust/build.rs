@@ -1,4 +1,4 @@
-//! Links the proved library: `rt staticlib duottarok` writes it to target/staticlib of the repository.
+//! Links the proved library: `scripts/staticlib` writes it to target/staticlib of the repository.
 //! DUOTTAROK_LIB_DIR names another folder.
 use std::{env, path::PathBuf};
 
