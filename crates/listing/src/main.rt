@@ -14,19 +14,11 @@ use text::LISTING_SIZE;
 const INPUT_SIZE: usize = state::SIZE + 1;
 
 // Fills the buffer from an input. It has room for more than an image, so that longer input is seen as such.
-fn read_input(input: &mut impl Read, buffer: &mut [u8; INPUT_SIZE]) -> io::Result<usize>
+fn read_input(from: &mut impl Read, buffer: &mut [u8; INPUT_SIZE]) -> io::Result<usize>
     requires { state_size < length buffer.old }
     ensures { ReadsAtMost result buffer.new }
 {
-    let mut n = 0;
-    while n < INPUT_SIZE {
-        let k = input.read(&mut buffer[n..])?;
-        if k == 0 {
-            break;
-        }
-        n += k;
-    }
-    Ok(n)
+    input::read_full(from, buffer)
 }
 
 fn main(rt: HostRuntime) -> io::Result<()> {

@@ -7,7 +7,6 @@
 #![tactic(auto)]
 
 ghost use Rattle.std.specs.Prelude.{◌+◌, ◌<◌, ◌≤◌, length};
-ghost use Rattle.std.specs.Io.{ReadsAtMost};
 
 use duottarok::{
     dpe_count, dpe_descendants, dpe_destroy_context, dpe_initialize_context, dpe_lookup, dpe_path,
@@ -15,7 +14,6 @@ use duottarok::{
 };
 use image::state;
 use std::io;
-use std::io::Read;
 use table::state::State;
 
 const INPUT_SIZE: usize = 262144;
@@ -214,24 +212,9 @@ fn replay(list: &[u8]) -> Tally {
     Tally { cases, differ }
 }
 
-// Fills the buffer from an input.
-fn read_input(input: &mut impl Read, buffer: &mut [u8; INPUT_SIZE]) -> io::Result<usize>
-    ensures { ReadsAtMost result buffer.new }
-{
-    let mut n = 0;
-    while n < INPUT_SIZE {
-        let k = input.read(&mut buffer[n..])?;
-        if k == 0 {
-            break;
-        }
-        n += k;
-    }
-    Ok(n)
-}
-
 fn main(rt: HostRuntime) -> io::Result<()> {
     let mut buffer = [0u8; INPUT_SIZE];
-    let n = read_input(&mut rt.reader(), &mut buffer)?;
+    let n = input::read_full(&mut rt.reader(), &mut buffer)?;
     let t = replay(&buffer[..n]);
     let cases = t.cases;
     let differ = t.differ;
