@@ -1,4 +1,4 @@
--- `marks::has` meets its contract. Assumes nothing.
+-- `children::has_child` meets its contract. Assumes nothing.
 use mathlib.Core.Path.{sym, ap, ◌∙◌}
 use Prim.Native.Nat.{ℕ, ◌/◌, ◌^◌}
 use lib.Bits.{and_mask}

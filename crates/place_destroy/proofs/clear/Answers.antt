@@ -1,6 +1,5 @@
 -- `place_destroy::clear` meets its contract. Assumes nothing.
 use mathlib.Core.Path.{◌≡◌, refl, ap, ◌∙◌}
-use Prim.Native.Nat.{◌-◌}
 use native.Mathlib.Omega.{arith}
 use Rattle.children.specs.Below.{list_of}
 use Rattle.children.specs.Marks.{slot_count}

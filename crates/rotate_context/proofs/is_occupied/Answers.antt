@@ -1,6 +1,5 @@
 -- `rotate_context::is_occupied` meets its contract. Assumes nothing.
 use mathlib.Core.Path.{sym, ◌∙◌}
-use Prim.Native.Nat.{◌-◌}
 use native.Mathlib.Omega.{arith}
 use Rattle.children.specs.Marks.{slot_count}
 use Rattle.context.specs.Context.{slot_of}

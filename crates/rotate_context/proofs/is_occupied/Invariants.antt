@@ -1,6 +1,6 @@
 use mathlib.Core.Path.{◌≡◌}
 use mathlib.Core.Bool.{false}
-use Prim.Native.Nat.{◌≤◌, ◌-◌}
+use Prim.Native.Nat.{◌≤◌}
 use Rattle.children.specs.Marks.{slot_count}
 use Rattle.context.specs.Context.{slot_of}
 use Rattle.rotate_context.specs.Rotate.{occupied}

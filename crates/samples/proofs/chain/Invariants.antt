@@ -1,4 +1,4 @@
-use Prim.Native.Nat.{◌-◌, ◌≤◌}
+use Prim.Native.Nat.{◌≤◌}
 use Rattle.children.specs.Marks.{slot_count}
 use Rattle.samples.proofs.chain.Given as goal
 

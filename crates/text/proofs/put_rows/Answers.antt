@@ -1,6 +1,5 @@
 -- `text::put_rows` meets its contract. Assumes nothing.
 use native.Mathlib.Omega.{arith}
-use Prim.Native.Nat.{◌-◌}
 use mathlib.Core.Path.{refl, ◌∙◌}
 use Rattle.context.specs.Context.{slot_of}
 use Rattle.image.specs.State.{decode_state}

@@ -1,7 +1,6 @@
 -- `validation_fields::inactive_test` meets its contract. Assumes nothing.
 use mathlib.Core.Bool.{not, ◌||◌}
 use mathlib.Core.Path.{sym, ap, ap₂, ◌∙◌}
-use Prim.Native.Nat.{◌-◌}
 use borrow.Author.Tests.{eq-eqb, ne_eqb}
 use Rattle.children.proofs.Cases.{not-true, not-false}
 use Rattle.verdict.specs.Tests.{inactive_of}

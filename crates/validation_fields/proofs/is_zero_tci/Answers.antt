@@ -1,5 +1,4 @@
 -- `validation_fields::is_zero_tci` meets its contract. Assumes nothing.
-use Prim.Native.Nat.{◌-◌}
 use Rattle.verdict.specs.Tests.{is_zero_tci}
 use Rattle.validation_fields.proofs.is_zero_tci.Goals as goal
 

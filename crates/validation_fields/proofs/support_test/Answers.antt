@@ -1,6 +1,5 @@
 -- `validation_fields::support_test` meets its contract. Assumes nothing.
 use mathlib.Core.Path.{sym, ◌∙◌}
-use Prim.Native.Nat.{◌-◌}
 use Rattle.verdict.specs.Tests.{has_parent, support_of}
 use Rattle.verdict.proofs.Steps.{need_on, need_off, pass, stop}
 use Rattle.validation_fields.proofs.Exits.{used, neither, used-with}

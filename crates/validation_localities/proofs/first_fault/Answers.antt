@@ -1,6 +1,5 @@
 -- `validation_localities::first_fault` meets its contract. Assumes nothing.
 use mathlib.Core.Path.{◌≡◌, refl, sym, ap, ◌∙◌}
-use Prim.Native.Nat.{◌-◌}
 use native.Mathlib.Omega.{arith}
 use Rattle.children.specs.Marks.{slot_count}
 use Rattle.verdict.specs.Tests.{first_below, localities_test}

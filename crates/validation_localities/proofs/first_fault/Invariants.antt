@@ -1,5 +1,5 @@
 use mathlib.Core.Path.{◌≡◌}
-use Prim.Native.Nat.{ℕ, ◌-◌, ◌≤◌}
+use Prim.Native.Nat.{ℕ, ◌≤◌}
 use Rattle.children.specs.Marks.{slot_count, marked}
 use Rattle.links.specs.Summary.{number_in}
 use Rattle.verdict.specs.declared.Verdict.TheVariants.{Valid}

@@ -1,6 +1,5 @@
 -- `validation_localities::is_crowded` meets its contract. Assumes nothing.
 use mathlib.Core.Path.{refl, sym, ◌∙◌}
-use Prim.Native.Nat.{◌-◌}
 use native.Mathlib.Omega.{arith}
 use Rattle.children.specs.Below.{some}
 use Rattle.children.specs.Marks.{slot_count}

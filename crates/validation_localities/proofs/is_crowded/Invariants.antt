@@ -1,6 +1,6 @@
 use mathlib.Core.Bool.{false}
 use mathlib.Core.Path.{◌≡◌}
-use Prim.Native.Nat.{◌≤◌, ◌-◌}
+use Prim.Native.Nat.{◌≤◌}
 use Rattle.children.specs.Below.{some}
 use Rattle.children.specs.Marks.{slot_count, marked}
 use Rattle.links.specs.Summary.{number_in}

@@ -1,7 +1,7 @@
 -- `validation_localities::locality_test` meets its contract. Assumes nothing.
 use mathlib.Core.List.{List}
 use mathlib.Core.Path.{◌≡◌, refl, sym, ap, ◌∙◌}
-use Prim.Native.Nat.{ℕ, suc, ◌-◌}
+use Prim.Native.Nat.{ℕ, suc}
 use native.Mathlib.Omega.{arith}
 use Rattle.children.specs.Below.{count}
 use Rattle.children.specs.Marks.{slot_count, marked}

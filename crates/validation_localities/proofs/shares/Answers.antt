@@ -1,7 +1,6 @@
 -- `validation_localities::shares` meets its contract. Assumes nothing.
 use mathlib.Core.Bool.{Bool, not, ◌&&◌, ◌||◌}
 use mathlib.Core.Path.{refl, sym, ap₂, ◌∙◌}
-use Prim.Native.Nat.{◌-◌}
 use native.Mathlib.Omega.{arith}
 use lib.Dec.{eqb}
 use Rattle.children.specs.Below.{some}

@@ -1,6 +1,5 @@
 -- `validation_slots::active_test` meets its contract. Assumes nothing.
 use mathlib.Core.Path.{sym, ◌∙◌}
-use Prim.Native.Nat.{◌-◌}
 use Rattle.verdict.specs.Tests.{state_of}
 use Rattle.verdict.proofs.Steps.{pass, stop}
 use Rattle.validation_fields.proofs.Exits.{used}

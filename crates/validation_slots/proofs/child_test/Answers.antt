@@ -1,6 +1,5 @@
 -- `validation_slots::child_test` meets its contract. Assumes nothing.
 use mathlib.Core.Path.{sym, ◌∙◌}
-use Prim.Native.Nat.{◌-◌}
 use borrow.Author.Tests.{eq-eqb, ne_eqb}
 use Rattle.children.specs.Marks.{slot_count}
 use Rattle.children.proofs.Marks.{seen}

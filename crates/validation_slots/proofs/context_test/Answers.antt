@@ -1,6 +1,5 @@
 -- `validation_slots::context_test` meets its contract. Assumes nothing.
 use mathlib.Core.Path.{sym, ◌∙◌}
-use Prim.Native.Nat.{◌-◌}
 use borrow.Author.Tests.{eq-eqb, ne_eqb}
 use Rattle.verdict.specs.Tests.{context_of}
 use Rattle.verdict.proofs.Steps.{need_on, need_off, onward, halt}

@@ -1,6 +1,5 @@
 -- `validation_slots::links_test` meets its contract. Assumes nothing.
 use mathlib.Core.Path.{sym, ◌∙◌}
-use Prim.Native.Nat.{◌-◌}
 use Rattle.verdict.specs.Tests.{links_test}
 use Rattle.verdict.proofs.Steps.{onward, halt}
 use Rattle.validation_slots.proofs.links_test.Goals as goal

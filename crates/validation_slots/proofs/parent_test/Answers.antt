@@ -1,6 +1,5 @@
 -- `validation_slots::parent_test` meets its contract. Assumes nothing.
 use mathlib.Core.Path.{sym, ◌∙◌}
-use Prim.Native.Nat.{◌-◌}
 use borrow.Author.Tests.{lt-ltb, le-ltb}
 use Rattle.children.specs.Marks.{slot_count}
 use Rattle.children.proofs.Marks.{seen}

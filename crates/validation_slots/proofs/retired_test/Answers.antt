@@ -1,6 +1,5 @@
 -- `validation_slots::retired_test` meets its contract. Assumes nothing.
 use mathlib.Core.Path.{sym, ◌∙◌}
-use Prim.Native.Nat.{◌-◌}
 use Rattle.verdict.specs.Tests.{state_of}
 use Rattle.verdict.proofs.Steps.{need_on, need_off, onward, halt}
 use Rattle.validation_slots.proofs.Exits.{not-eq, not-ne}

@@ -1,5 +1,5 @@
 use mathlib.Core.Path.{◌≡◌}
-use Prim.Native.Nat.{◌-◌, ◌≤◌}
+use Prim.Native.Nat.{◌≤◌}
 use Rattle.children.specs.Marks.{slot_count}
 use Rattle.context.specs.Context.{slot_of}
 use Rattle.verdict.specs.declared.Verdict.TheVariants.{Valid}

@@ -1,6 +1,5 @@
 -- `validation_slots::state_test` meets its contract. Assumes nothing.
 use mathlib.Core.Path.{◌∙◌}
-use Prim.Native.Nat.{◌-◌}
 use Rattle.verdict.specs.Tests.{state_of}
 use Rattle.validation_slots.proofs.Exits.{by_state}
 use Rattle.validation_slots.proofs.state_test.Goals as goal

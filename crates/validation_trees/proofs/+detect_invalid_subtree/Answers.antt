@@ -1,9 +1,8 @@
 -- `validation_trees::detect_invalid_subtree` meets its contract. Assumes nothing.
 use mathlib.Core.List.{[]}
 use mathlib.Core.Path.{◌≡◌, refl, sym, ap, ◌∙◌}
-use Prim.Native.Nat.{◌+◌, ◌-◌}
+use Prim.Native.Nat.{◌+◌}
 use native.Mathlib.Omega.{arith}
-use borrow.Fn.PlainCycle.{is}
 use Rattle.children.specs.Marks.{slot_count}
 use Rattle.children.proofs.Marks.{has-is, seen, next-after}
 use Rattle.context.specs.Bytes.{byte_of}

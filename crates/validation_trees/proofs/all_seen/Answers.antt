@@ -1,6 +1,6 @@
 -- `validation_trees::all_seen` meets its contract. Assumes nothing.
 use mathlib.Core.Path.{ap, ◌∙◌}
-use Prim.Native.Nat.{ℕ, ◌-◌}
+use Prim.Native.Nat.{ℕ}
 use lib.Dec.{eqb}
 use Rattle.children.specs.Marks.{slot_count, count_below}
 use Rattle.validation_trees.proofs.Searches.{seen-is}

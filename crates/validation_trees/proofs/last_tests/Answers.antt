@@ -1,6 +1,5 @@
 -- `validation_trees::last_tests` meets its contract. Assumes nothing.
 use mathlib.Core.Path.{sym, ◌∙◌}
-use Prim.Native.Nat.{◌-◌}
 use native.Mathlib.Omega.{arith}
 use Rattle.validation_trees.proofs.Searches.{last_many, last-cycles, last_valid}
 use Rattle.validation_trees.proofs.last_tests.Goals as goal

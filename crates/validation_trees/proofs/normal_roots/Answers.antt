@@ -1,7 +1,6 @@
 -- `validation_trees::normal_roots` meets its contract. Assumes nothing.
 use mathlib.Core.List.{[]}
 use mathlib.Core.Path.{refl, sym, ◌∙◌}
-use Prim.Native.Nat.{◌-◌}
 use native.Mathlib.Omega.{arith}
 use Rattle.children.specs.Below.{count}
 use Rattle.children.specs.Marks.{slot_count}

@@ -1,6 +1,6 @@
 use mathlib.Core.List.{[]}
 use mathlib.Core.Path.{◌≡◌}
-use Prim.Native.Nat.{◌-◌, ◌≤◌}
+use Prim.Native.Nat.{◌≤◌}
 use Rattle.children.specs.Below.{count}
 use Rattle.children.specs.Marks.{slot_count}
 use Rattle.forest.specs.Search.{normal_root}

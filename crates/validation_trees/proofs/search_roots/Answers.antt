@@ -1,6 +1,5 @@
 -- `validation_trees::search_roots` meets its contract. Assumes nothing.
 use mathlib.Core.Path.{◌≡◌, refl, sym, ap, ◌∙◌}
-use Prim.Native.Nat.{◌-◌}
 use native.Mathlib.Omega.{arith}
 use Rattle.children.specs.Marks.{slot_count}
 use Rattle.forest.specs.Search.{fine, each, search_roots}

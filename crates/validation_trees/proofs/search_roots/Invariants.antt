@@ -1,5 +1,5 @@
 use mathlib.Core.Path.{◌≡◌}
-use Prim.Native.Nat.{◌-◌, ◌≤◌}
+use Prim.Native.Nat.{◌≤◌}
 use Rattle.children.specs.Marks.{slot_count}
 use Rattle.forest.specs.Search.{fine}
 use Rattle.validation_trees.specs.Summary.{kind_in, table_in}

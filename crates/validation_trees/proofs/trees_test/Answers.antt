@@ -1,6 +1,5 @@
 -- `validation_trees::trees_test` meets its contract. Assumes nothing.
 use mathlib.Core.Path.{sym, ◌∙◌}
-use Prim.Native.Nat.{◌-◌}
 use Rattle.validation_trees.specs.Summary.{kind_in, table_in}
 use Rattle.validation_trees.proofs.Searches.{told_seen, same_last, found_flaw, found_seen}
 use Rattle.validation_trees.proofs.trees_test.Goals as goal

@@ -1,5 +1,5 @@
 use mathlib.Core.Path.{◌≡◌}
-use Prim.Native.Nat.{ℕ, ◌≤◌, ◌-◌}
+use Prim.Native.Nat.{ℕ, ◌≤◌}
 use Rattle.children.specs.Below.{list_of}
 use Rattle.children.specs.Marks.{slot_count}
 use Rattle.links.specs.Summary.{number_in, steps_up}

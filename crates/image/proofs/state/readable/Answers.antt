@@ -1,6 +1,6 @@
 -- `image::state::readable` meets its contract. Assumes nothing.
 use native.Mathlib.Omega.{arith}
-use Prim.Native.Nat.{ℕ, ◌-◌}
+use Prim.Native.Nat.{ℕ}
 use mathlib.Core.Path.{◌≡◌, refl, sym, ap, ◌∙◌}
 use Rattle.children.specs.Marks.{slot_count}
 use Rattle.image.specs.State.{slots_answer}

@@ -1,4 +1,4 @@
-use Prim.Native.Nat.{◌≤◌, ◌-◌}
+use Prim.Native.Nat.{◌≤◌}
 use mathlib.Core.Path.{◌≡◌}
 use Rattle.children.specs.Marks.{slot_count}
 use Rattle.error.specs.declared.Outcome.TheVariants.{Done}

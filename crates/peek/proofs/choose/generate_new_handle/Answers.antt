@@ -1,7 +1,7 @@
 -- `peek::choose::generate_new_handle` meets its contract. Assumes nothing.
 use mathlib.Core.Path.{◌≡◌, refl, sym, ap, ◌∙◌}
 use mathlib.Core.List.{List}
-use Prim.Native.Nat.{ℕ, ◌-◌}
+use Prim.Native.Nat.{ℕ}
 use native.Mathlib.Omega.{arith}
 use Rattle.children.specs.Below.{some}
 use Rattle.children.specs.Marks.{slot_count}

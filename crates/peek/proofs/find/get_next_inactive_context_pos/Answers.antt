@@ -1,6 +1,5 @@
 -- `peek::find::get_next_inactive_context_pos` meets its contract. Assumes nothing.
 use mathlib.Core.Path.{◌≡◌, sym, ap, ◌∙◌}
-use Prim.Native.Nat.{◌-◌}
 use native.Mathlib.Omega.{arith}
 use Rattle.children.specs.Below.{lowest}
 use Rattle.children.specs.Marks.{slot_count}

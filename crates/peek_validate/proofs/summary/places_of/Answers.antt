@@ -1,7 +1,6 @@
 -- `peek_validate::summary::places_of` meets its contract. Assumes nothing.
 use mathlib.Core.Bool.{not, ◌&&◌}
 use mathlib.Core.Path.{refl, ap, ap₂, ◌∙◌}
-use Prim.Native.Nat.{◌-◌}
 use native.Mathlib.Omega.{arith}
 use lib.ListN.{length-set}
 use Rattle.children.specs.Below.{list_of}

@@ -1,6 +1,5 @@
 -- `peek_walks::path::lay` meets its contract. Assumes nothing.
 use mathlib.Core.Path.{refl}
-use Prim.Native.Nat.{◌-◌}
 use native.Mathlib.Omega.{arith}
 use Rattle.children.specs.Below.{list_of}
 use Rattle.children.specs.Marks.{slot_count}
