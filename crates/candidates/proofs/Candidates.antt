@@ -1,4 +1,5 @@
 -- Laws of the choice: what a candidate that was taken satisfies, what each refusal says, and that only the slots below n count. Assumes nothing.
+use Rattle.std.specs.Prelude.{Ok, Err}
 use mathlib.Core.Path.{◌≡◌, refl, sym, ap, ◌∙◌}
 use mathlib.Core.Logic.{◌⊎◌, inl, inr}
 use mathlib.Core.Bool.{Bool, true, false, cond, not, ◌&&◌}
@@ -15,7 +16,6 @@ use Rattle.error.specs.declared.DpeErrorCode.{DpeErrorCode}
 use Rattle.error.specs.declared.DpeErrorCode.TheVariants.{InternalError, Added}
 use Rattle.error.specs.declared.InternalErrorCode.TheVariants.{HandleGenerationExhausted}
 use Rattle.error.specs.declared.AddedErrorCode.TheVariants.{CandidatesShort}
-use Rattle.error.specs.declared.Outcome.TheVariants.{Done, Refused}
 use Rattle.children.specs.Below.{some, lowest_from, lowest}
 use Rattle.children.proofs.Cases.{clash, order, and-true, and_both, and_right, not-true, leb-true}
 use Rattle.children.proofs.Below.{low-here, low_on, low_end, low_bare, low_passes, low_ge, low_same, none-at, some_same}
@@ -116,10 +116,10 @@ pub record Untaken (n : ℕ) (s : ℕ → Context) (b : List ℕ) (e : DpeErrorC
 differ : {a b : List ℕ} → same_bytes a b ≡ false → a ≡ b → ⊥
 differ {a} {b} f e = clash ((same_iff a b).1 e) f
 
-pub same_refused : {e f : DpeErrorCode} → Refused e ≡ Refused f → e ≡ f
+pub same_refused : {e f : DpeErrorCode} → Err e ≡ Err f → e ≡ f
 same_refused p = cc
 
-pub never_done : {A : Type 0} {e : DpeErrorCode} → Done ≡ Refused e → A
+pub never_done : {A : Type 0} {e : DpeErrorCode} → (Ok tt) ≡ Err e → A
 never_done p = absurd (let z : ◌≡◌ {A = ℕ} 0 1 = cc in omega arith)
 
 module _ (n : ℕ) (s : ℕ → Context) (b : List ℕ) where
@@ -156,14 +156,14 @@ module _ (n : ℕ) (s : ℕ → Context) (b : List ℕ) where
         ]
   ]
 
-  pub taken : (chosen_in n s b).answer ≡ Done → Taken n s b (chosen_in n s b).handle
+  pub taken : (chosen_in n s b).answer ≡ Ok tt → Taken n s b (chosen_in n s b).handle
   taken e =
       ways
       (λ k t q. rw q t)
       (λ f l q. never_done (sym e ∙ ap (λ (c : Chosen). c.answer) q))
       (λ f l q. never_done (sym e ∙ ap (λ (c : Chosen). c.answer) q))
 
-  pub untaken : (e : DpeErrorCode) → (chosen_in n s b).answer ≡ Refused e → Untaken n s b e
+  pub untaken : (e : DpeErrorCode) → (chosen_in n s b).answer ≡ Err e → Untaken n s b e
   untaken e p =
       ways
       (λ k t q. never_done (sym (ap (λ (c : Chosen). c.answer) q) ∙ p))

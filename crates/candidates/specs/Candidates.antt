@@ -1,11 +1,10 @@
 -- The choice of a usable candidate from the bytes b of a lent buffer. A table is a function s from a slot to its context, and n is the number of
 -- slots. Assumes nothing: these are definitions.
-use Rattle.std.specs.Prelude.{Bool, cond, not, ◌&&◌, List, ℕ, ◌+◌, ◌*◌, leb, ltb, length, take, drop}
+use Rattle.std.specs.Prelude.{Bool, cond, not, ◌&&◌, List, ℕ, ◌+◌, ◌*◌, leb, ltb, length, take, drop, Ok, Err}
 use Rattle.error.specs.declared.DpeErrorCode.{DpeErrorCode}
 use Rattle.error.specs.declared.DpeErrorCode.TheVariants.{InternalError, Added}
 use Rattle.error.specs.declared.InternalErrorCode.TheVariants.{HandleGenerationExhausted}
 use Rattle.error.specs.declared.AddedErrorCode.TheVariants.{CandidatesShort}
-use Rattle.error.specs.declared.Outcome.TheVariants.{Done, Refused}
 use Rattle.children.specs.Below.{some, lowest}
 use Rattle.context.specs.declared.Context.{Context}
 use Rattle.handle.specs.Handle.{handle_size, same_bytes, default_handle, is_default}
@@ -37,11 +36,11 @@ usable_at n s b k = holds b (k + 1) && usable n s (candidate_at b k)
 
 -- the candidate h is taken
 abbrev pub taken_of : List ℕ → Chosen
-taken_of h = record { answer = Done; handle = h }
+taken_of h = record { answer = Ok tt; handle = h }
 
 -- a refusal: no handle
 abbrev pub untaken_of : DpeErrorCode → Chosen
-untaken_of e = record { answer = Refused e; handle = default_handle }
+untaken_of e = record { answer = Err e; handle = default_handle }
 
 -- none is usable: HandleGenerationExhausted after eight, CandidatesShort where the buffer holds fewer than eight
 abbrev pub none_usable : List ℕ → Chosen

@@ -9,7 +9,7 @@ ghost use Rattle.candidates.specs.Candidates.{candidate_at, untaken_of, chosen_i
 
 use children::MAX_HANDLES;
 use context::Context;
-use error::{AddedErrorCode, DpeErrorCode, InternalErrorCode, Outcome};
+use error::{AddedErrorCode, DpeErrorCode, InternalErrorCode};
 use table::state::State;
 
 // How many candidates are tried.
@@ -18,7 +18,7 @@ pub const MAX_NEW_HANDLE_ATTEMPTS: usize = 8;
 // How the choice ended, and the handle that was taken, all zero for a refusal.
 #[derive(Clone, Copy)]
 pub struct Chosen {
-    pub answer: Outcome,
+    pub answer: Result<(), DpeErrorCode>,
     pub handle: [u8; handle::SIZE],
 }
 
@@ -49,7 +49,7 @@ pub fn untaken(e: DpeErrorCode) -> Chosen
 {
     let handle = handle::default();
     Chosen {
-        answer: Outcome::Refused(e),
+        answer: Err(e),
         handle,
     }
 }
@@ -73,7 +73,7 @@ pub fn generate_new_handle(t: State, candidates: &[u8]) -> Chosen
             }
         }
         return Chosen {
-            answer: Outcome::Done,
+            answer: Ok(()),
             handle: h,
         };
     }

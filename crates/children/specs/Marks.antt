@@ -1,12 +1,11 @@
 -- Marks of slots in a word of 64 bits. Only the marks below the number of slots n are counted, iterated or tested; the word may hold more.
 -- Assumes nothing: these are definitions.
-use Rattle.std.specs.Prelude.{Bool, cond, ◌&&◌, ℕ, ◌-◌, ◌/◌, ◌%◌, ◌^◌, ltb, eqb}
+use Rattle.error.specs.declared.DpeErrorCode.{DpeErrorCode}
+use Rattle.std.specs.Prelude.{Bool, cond, ◌&&◌, ℕ, ◌-◌, ◌/◌, ◌%◌, ◌^◌, ltb, eqb, Result, Ok, Err}
 use Rattle.std.specs.Int.Bits.{bit_and, bit_or}
 use Rattle.error.specs.declared.DpeErrorCode.TheVariants.{InternalError}
 use Rattle.error.specs.declared.InternalErrorCode.TheVariants.{ChildrenBitmapIndexOob}
 use Rattle.children.specs.Below.{count, lowest_from}
-use Rattle.children.specs.declared.Answer.{Answer}
-use Rattle.children.specs.declared.Answer.TheVariants.{Marks, Refused}
 
 -- THE number of slots of a table; nothing else writes it
 abbrev pub slot_count : ℕ
@@ -47,5 +46,5 @@ abbrev pub next_below : ℕ → ℕ → ℕ → ℕ
 next_below n m k = lowest_from (marked m) (n - k) k
 
 -- m with slot k marked, or the refusal where k is no slot
-unfoldable pub add_child_of : ℕ → ℕ → ℕ → Answer
-add_child_of n m k = cond (ltb k n) (Marks (with m k)) (Refused (InternalError ChildrenBitmapIndexOob))
+unfoldable pub add_child_of : ℕ → ℕ → ℕ → Result ℕ DpeErrorCode
+add_child_of n m k = cond (ltb k n) (Ok (with m k)) (Err (InternalError ChildrenBitmapIndexOob))

@@ -13,13 +13,6 @@ pub const MAX_HANDLES: usize = 32;
 // The marks that are counted and iterated: those below MAX_HANDLES.
 const SLOT_MARKS: u64 = 0xffff_ffff;
 
-// Marks, or a refusal.
-#[derive(Clone, Copy)]
-pub enum Answer {
-    Marks(u64),
-    Refused(DpeErrorCode),
-}
-
 // No marks.
 pub fn empty() -> u64
     ensures { result ≡ 0 }
@@ -44,15 +37,15 @@ pub fn with_if(b: bool, m: u64, k: usize) -> u64
 }
 
 // The marks of m, and slot k, which has to be a slot.
-pub fn add_child(m: u64, k: usize) -> Answer
+pub fn add_child(m: u64, k: usize) -> Result<u64, DpeErrorCode>
     ensures { result ≡ add_child_of slot_count m k }
 {
     if k >= MAX_HANDLES {
-        return Answer::Refused(DpeErrorCode::InternalError(
+        return Err(DpeErrorCode::InternalError(
             InternalErrorCode::ChildrenBitmapIndexOob,
         ));
     }
-    Answer::Marks(with(m, k))
+    Ok(with(m, k))
 }
 
 // Whether none of all 64 marks is there.

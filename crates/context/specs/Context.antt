@@ -1,9 +1,8 @@
 -- One context: a new one, an active one, a cleared one, and tests on it. Assumes nothing: these are definitions.
-use Rattle.std.specs.Prelude.{Bool, true, false, cond, not, List, [], ℕ, ltb, replicate, get_or}
+use Rattle.error.specs.declared.DpeErrorCode.{DpeErrorCode}
+use Rattle.std.specs.Prelude.{Bool, true, false, cond, not, List, [], ℕ, ltb, replicate, get_or, Result, Err}
 use Rattle.error.specs.declared.DpeErrorCode.TheVariants.{InternalError}
 use Rattle.error.specs.declared.InternalErrorCode.TheVariants.{ChildIndexOob}
-use Rattle.children.specs.declared.Answer.{Answer}
-use Rattle.children.specs.declared.Answer.TheVariants.{Refused}
 use Rattle.children.specs.Marks.{add_child_of}
 use Rattle.context.specs.declared.tci.TciNodeData.{TciNodeData}
 use Rattle.context.specs.declared.ContextState.{ContextState}
@@ -80,8 +79,8 @@ destroyed c = record {
 }
 
 -- the marks m with slot k, or the refusal where k is no slot
-unfoldable pub with_child_of : ℕ → ℕ → ℕ → Answer
-with_child_of n m k = cond (ltb k n) (add_child_of n m k) (Refused (InternalError ChildIndexOob))
+unfoldable pub with_child_of : ℕ → ℕ → ℕ → Result ℕ DpeErrorCode
+with_child_of n m k = cond (ltb k n) (add_child_of n m k) (Err (InternalError ChildIndexOob))
 
 -- a context with another handle, and with other children
 abbrev pub with_handle : Context → List ℕ → Context

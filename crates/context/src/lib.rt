@@ -9,13 +9,12 @@ ghost use Rattle.children.specs.Marks.{slot_count};
 ghost use Rattle.context.specs.Context.{new_context, active_context, destroyed, with_child_of, is_inactive, is_active, is_retired, same_state, is_normal};
 
 use crate::tci::TciNodeData;
-use children::Answer;
 use error::{DpeErrorCode, InternalErrorCode};
 
 // The parent of a context that has none.
 pub const ROOT_INDEX: u8 = 0xff;
 
-#[derive(Clone, Copy)]
+#[derive(Clone, Copy, Debug, PartialEq, Eq)]
 pub enum ContextState {
     // Not in use.
     Inactive,
@@ -25,7 +24,7 @@ pub enum ContextState {
     Retired,
 }
 
-#[derive(Clone, Copy)]
+#[derive(Clone, Copy, Debug, PartialEq, Eq)]
 pub enum ContextType {
     Normal,
     Simulation,
@@ -132,11 +131,11 @@ impl Context {
     }
 
     // The marks of the context with one more. They are answered, and not stored.
-    pub fn add_child(self, idx: usize) -> Answer
+    pub fn add_child(self, idx: usize) -> Result<u64, DpeErrorCode>
         ensures { result ≡ with_child_of slot_count self.children idx }
     {
         if idx >= children::MAX_HANDLES {
-            return Answer::Refused(DpeErrorCode::InternalError(InternalErrorCode::ChildIndexOob));
+            return Err(DpeErrorCode::InternalError(InternalErrorCode::ChildIndexOob));
         }
         children::add_child(self.children, idx)
     }
@@ -145,49 +144,30 @@ impl Context {
 pub fn is_inactive(s: ContextState) -> bool
     ensures { result ≡ is_inactive s }
 {
-    match s {
-        ContextState::Inactive => true,
-        ContextState::Active => false,
-        ContextState::Retired => false,
-    }
+    s == ContextState::Inactive
 }
 
 pub fn is_active(s: ContextState) -> bool
     ensures { result ≡ is_active s }
 {
-    match s {
-        ContextState::Inactive => false,
-        ContextState::Active => true,
-        ContextState::Retired => false,
-    }
+    s == ContextState::Active
 }
 
 pub fn is_retired(s: ContextState) -> bool
     ensures { result ≡ is_retired s }
 {
-    match s {
-        ContextState::Inactive => false,
-        ContextState::Active => false,
-        ContextState::Retired => true,
-    }
+    s == ContextState::Retired
 }
 
 // Whether two states are the same.
 pub fn same_state(a: ContextState, b: ContextState) -> bool
     ensures { result ≡ same_state a b }
 {
-    match a {
-        ContextState::Inactive => is_inactive(b),
-        ContextState::Active => is_active(b),
-        ContextState::Retired => is_retired(b),
-    }
+    a == b
 }
 
 pub fn is_normal(t: ContextType) -> bool
     ensures { result ≡ is_normal t }
 {
-    match t {
-        ContextType::Normal => true,
-        ContextType::Simulation => false,
-    }
+    t == ContextType::Normal
 }

@@ -1,16 +1,11 @@
 -- Destroy, over the table. Assumes nothing: these are definitions.
-use Rattle.std.specs.Prelude.{Bool, cond, List, ℕ, ltb}
+use Rattle.std.specs.Prelude.{Bool, cond, List, ℕ, ltb, Result, Ok, Err}
 use Rattle.error.specs.declared.DpeErrorCode.{DpeErrorCode}
 use Rattle.error.specs.declared.DpeErrorCode.TheVariants.{InternalError}
 use Rattle.error.specs.declared.InternalErrorCode.TheVariants.{ContextIndexOob}
-use Rattle.error.specs.declared.Outcome.TheVariants as outcome
-use Rattle.children.specs.declared.Answer.{Answer}
-use Rattle.children.specs.declared.Answer.TheVariants.{Marks, Refused}
 use Rattle.children.specs.Marks.{slot_count}
 use Rattle.context.specs.declared.Context.{Context}
 use Rattle.table.specs.declared.state.State.{State}
-use Rattle.table.specs.declared.state.Found.{Found}
-use Rattle.table.specs.declared.state.Found.TheVariants as found
 use Rattle.context.specs.Context.{slot_of}
 use Rattle.clearing.specs.Clearing.{cleared_by}
 use Rattle.forest.specs.Destroy.{doomed_word}
@@ -22,38 +17,38 @@ use Rattle.destroy_context.specs.declared.Destroyed.{Destroyed}
 
 -- a refusal: the table as it was
 abbrev pub refused_by : State → DpeErrorCode → Destroyed
-refused_by t e = record { answer = outcome.Refused e; state = t }
+refused_by t e = record { answer = Err e; state = t }
 
 -- with the run above and the descendants: the slot, its descendants and the run go
-unfoldable pub on_down : ℕ → ℕ → Answer → Answer
-on_down slot run (Marks down) = Marks (doomed_word down slot run)
-on_down slot run (Refused e) = Refused e
+unfoldable pub on_down : ℕ → ℕ → Result ℕ DpeErrorCode → Result ℕ DpeErrorCode
+on_down slot run (Ok down) = Ok (doomed_word down slot run)
+on_down slot run (Err e) = Err e
 
 -- with the run above: then the descendants
-unfoldable pub on_run : ℕ → Answer → Answer → Answer
-on_run slot down (Marks run) = on_down slot run down
-on_run slot down (Refused e) = Refused e
+unfoldable pub on_run : ℕ → Result ℕ DpeErrorCode → Result ℕ DpeErrorCode → Result ℕ DpeErrorCode
+on_run slot down (Ok run) = on_down slot run down
+on_run slot down (Err e) = Err e
 
 -- the slots that go with a slot, as the links of all slots say it: the walk up first
-unfoldable pub doomed_of : ℕ → (ℕ → Bool) → (ℕ → Bool) → (ℕ → ℕ) → (ℕ → ℕ) → ℕ → Answer
+unfoldable pub doomed_of : ℕ → (ℕ → Bool) → (ℕ → Bool) → (ℕ → ℕ) → (ℕ → ℕ) → ℕ → Result ℕ DpeErrorCode
 doomed_of n live retired parent kids slot =
-    cond (ltb slot n) (on_run slot (down_from n live kids slot) (run_from n retired parent kids (parent slot))) (Refused (InternalError ContextIndexOob))
+    cond (ltb slot n) (on_run slot (down_from n live kids slot) (run_from n retired parent kids (parent slot))) (Err (InternalError ContextIndexOob))
 
-abbrev pub doomed_in : ℕ → (ℕ → Context) → ℕ → Answer
+abbrev pub doomed_in : ℕ → (ℕ → Context) → ℕ → Result ℕ DpeErrorCode
 doomed_in n s slot = doomed_of n (live_at s) (retired_at s) (parent_at s) (kids_at s) slot
 
 -- they are cleared, or the table stays as it was
-unfoldable pub on_doomed : State → Answer → Destroyed
-on_doomed t (Marks set) = record { answer = outcome.Done; state = cleared_by t set }
-on_doomed t (Refused e) = refused_by t e
+unfoldable pub on_doomed : State → Result ℕ DpeErrorCode → Destroyed
+on_doomed t (Ok set) = record { answer = Ok tt; state = cleared_by t set }
+on_doomed t (Err e) = refused_by t e
 
 -- destroy of a slot
 unfoldable pub destroy_slot_of : State → ℕ → Destroyed
 destroy_slot_of t slot = on_doomed t (doomed_in slot_count (slot_of t.contexts) slot)
 
-unfoldable pub on_found : State → Found → Destroyed
-on_found t (found.At slot) = destroy_slot_of t slot
-on_found t (found.Refused e) = refused_by t e
+unfoldable pub on_found : State → Result ℕ DpeErrorCode → Destroyed
+on_found t (Ok slot) = destroy_slot_of t slot
+on_found t (Err e) = refused_by t e
 
 -- destroy by handle and locality
 unfoldable pub destroy_of : State → List ℕ → ℕ → Destroyed

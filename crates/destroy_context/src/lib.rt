@@ -6,16 +6,16 @@ ghost use Rattle.children.specs.Marks.{slot_count, marked};
 ghost use Rattle.links.specs.Summary.{number_in};
 ghost use Rattle.destroy_context.specs.Destroy.{refused_by, doomed_of, destroy_slot_of, destroy_of};
 
-use children::{Answer, MAX_HANDLES};
-use error::{DpeErrorCode, InternalErrorCode, Outcome};
+use children::MAX_HANDLES;
+use error::{DpeErrorCode, InternalErrorCode};
 use links::Links;
-use table::state::{Found, State};
+use table::state::State;
 use walks::descendants;
 
 // How a destroy ended, and the table.
 #[derive(Clone, Copy)]
 pub struct Destroyed {
-    pub answer: Outcome,
+    pub answer: Result<(), DpeErrorCode>,
     pub state: State,
 }
 
@@ -24,31 +24,31 @@ fn refused(t: State, e: DpeErrorCode) -> Destroyed
     ensures { result ≡ refused_by t e }
 {
     Destroyed {
-        answer: Outcome::Refused(e),
+        answer: Err(e),
         state: t,
     }
 }
 
 // The slots that go with a slot, as marks: itself, all that is below it, and the run above it. The walk up comes first.
-fn doomed(l: Links, slot: usize) -> Answer
+fn doomed(l: Links, slot: usize) -> Result<u64, DpeErrorCode>
     ensures { result ≡ doomed_of slot_count (marked l.live) (marked l.retired) (number_in l.parents) (number_in l.children) slot }
 {
     if slot >= MAX_HANDLES {
-        return Answer::Refused(DpeErrorCode::InternalError(InternalErrorCode::ContextIndexOob));
+        return Err(DpeErrorCode::InternalError(InternalErrorCode::ContextIndexOob));
     }
     let children = l.children;
     let parents = l.parents;
     let start = parents[slot];
     let above = walks_run::run_above(&children, &parents, l.retired, start);
-    let Answer::Marks(retired) = above else {
+    let Ok(retired) = above else {
         return above;
     };
     let below = descendants::descend(&children, l.live, children::empty(), slot, MAX_HANDLES);
-    let Answer::Marks(down) = below else {
+    let Ok(down) = below else {
         return below;
     };
     let set = children::add_children(children::with(down, slot), retired);
-    Answer::Marks(set)
+    Ok(set)
 }
 
 // Destroys the context of a slot.
@@ -57,11 +57,11 @@ pub fn destroy_slot(t: State, slot: usize) -> Destroyed
 {
     let l = links::links_of(t);
     let gone = doomed(l, slot);
-    let Answer::Marks(set) = gone else {
+    let Ok(set) = gone else {
         return refused(t, walks::why(gone));
     };
     Destroyed {
-        answer: Outcome::Done,
+        answer: Ok(()),
         state: clearing::cleared(t, set),
     }
 }
@@ -71,7 +71,7 @@ pub fn destroy_context(t: State, handle: [u8; handle::SIZE], locality: u32) -> D
     ensures { result ≡ destroy_of t handle locality }
 {
     let found = lookup::get_active_context_pos(t, handle, locality);
-    let Found::At(slot) = found else {
+    let Ok(slot) = found else {
         return refused(t, lookup::why(found));
     };
     destroy_slot(t, slot)

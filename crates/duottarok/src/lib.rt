@@ -14,7 +14,6 @@ use error::DpeErrorCode;
 use image::state;
 use peek::find;
 use peek_walks::{down, path};
-use table::state::Found;
 
 // Whether the table meets the forest rule; else its first fault.
 pub fn dpe_validate(image: &[u8]) -> u64
@@ -118,5 +117,5 @@ pub fn dpe_count(image: &[u8], state: u8, count: &mut u64) -> u64
     if state >= 3 {
         return tell::refused(DpeErrorCode::InvalidArgument);
     }
-    tell::number(Found::At(find::count_contexts(image, state)), count)
+    tell::number(Ok(find::count_contexts(image, state)), count)
 }

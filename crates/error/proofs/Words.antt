@@ -1,4 +1,5 @@
 -- An ending's word tells its numbers: the halves of a refusal's word are its two numbers, and the word is 0 for success alone. Assumes nothing.
+use Rattle.std.specs.Prelude.{Result, Ok, Err}
 use Prim.Native.Nat.{ℕ, ◌+◌, ◌*◌, ◌/◌, ◌%◌, ◌^◌, ◌<◌}
 use mathlib.Core.Path.{◌≡◌, refl}
 use native.Mathlib.Omega.{arith}
@@ -10,8 +11,6 @@ use Rattle.error.specs.declared.AddedErrorCode.{AddedErrorCode}
 use Rattle.error.specs.declared.AddedErrorCode.TheVariants.{BadLength, WalkLoops, CandidatesShort}
 use Rattle.error.specs.declared.DpeErrorCode.{DpeErrorCode}
 use Rattle.error.specs.declared.DpeErrorCode.TheVariants.{InternalError, InvalidCommand, InvalidArgument, InvalidHandle, InvalidLocality, ArgumentNotSupported, MaxTcis, Validation, Added}
-use Rattle.error.specs.declared.Outcome.{Outcome}
-use Rattle.error.specs.declared.Outcome.TheVariants.{Done, Refused}
 use Rattle.error.specs.Numbers.{outer_of, internal_of, validation_of, added_of, inner_of, word_of}
 
 -- an inner number fits the low half
@@ -73,12 +72,12 @@ numbers (Added x) = (omega arith, added-small x)
 halves : (a b : ℕ) → b < 2 ^ 32 → ((a * 2 ^ 32 + b) / 2 ^ 32 ≡ a) × ((a * 2 ^ 32 + b) % 2 ^ 32 ≡ b)
 halves a b h = (omega arith, omega arith)
 
-pub outer_half : (e : DpeErrorCode) → word_of (Refused e) / 2 ^ 32 ≡ outer_of e
+pub outer_half : (e : DpeErrorCode) → word_of {A = Unit} (Err e) / 2 ^ 32 ≡ outer_of e
 outer_half e = (halves (outer_of e) (inner_of e) (numbers e).1).0
 
-pub inner_half : (e : DpeErrorCode) → word_of (Refused e) % 2 ^ 32 ≡ inner_of e
+pub inner_half : (e : DpeErrorCode) → word_of {A = Unit} (Err e) % 2 ^ 32 ≡ inner_of e
 inner_half e = (halves (outer_of e) (inner_of e) (numbers e).1).1
 
-pub success-alone : (o : Outcome) → word_of o ≡ 0 → o ≡ Done
-success-alone Done z = refl
-success-alone (Refused e) z = absurd (omega (arith, (numbers e).0))
+pub success-alone : (o : Result Unit DpeErrorCode) → word_of o ≡ 0 → o ≡ Ok tt
+success-alone (Ok tt) z = refl
+success-alone (Err e) z = absurd (omega (arith, (numbers e).0))

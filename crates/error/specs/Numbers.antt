@@ -1,5 +1,5 @@
 -- Document 01's numbers of every refusal: the outer one, and the inner one where the case carries an inner enum. Assumes nothing.
-use Rattle.std.specs.Prelude.{ℕ, ◌+◌, ◌*◌, ◌^◌}
+use Rattle.std.specs.Prelude.{ℕ, ◌+◌, ◌*◌, ◌^◌, Result, Ok, Err}
 use Rattle.error.specs.declared.InternalErrorCode.{InternalErrorCode}
 use Rattle.error.specs.declared.InternalErrorCode.TheVariants.{HandleGenerationExhausted, ChildIndexOob, ChildrenBitmapIndexOob, ContextIndexOob, TciNodeCountExceeded, DestroyParentIndexOob}
 use Rattle.error.specs.declared.ValidationError.{ValidationError}
@@ -8,8 +8,6 @@ use Rattle.error.specs.declared.AddedErrorCode.{AddedErrorCode}
 use Rattle.error.specs.declared.AddedErrorCode.TheVariants.{BadLength, WalkLoops, CandidatesShort}
 use Rattle.error.specs.declared.DpeErrorCode.{DpeErrorCode}
 use Rattle.error.specs.declared.DpeErrorCode.TheVariants.{InternalError, InvalidCommand, InvalidArgument, InvalidHandle, InvalidLocality, ArgumentNotSupported, MaxTcis, Validation, Added}
-use Rattle.error.specs.declared.Outcome.{Outcome}
-use Rattle.error.specs.declared.Outcome.TheVariants.{Done, Refused}
 
 abbrev pub outer_of : DpeErrorCode → ℕ
 outer_of (InternalError x) = 1
@@ -76,6 +74,6 @@ inner_of (Validation x) = validation_of x
 inner_of (Added x) = added_of x
 
 -- an ending as one word: the outer number in the high half, the inner in the low; 0 for success
-abbrev pub word_of : Outcome → ℕ
-word_of Done = 0
-word_of (Refused e) = outer_of e * 2 ^ 32 + inner_of e
+abbrev pub word_of : {A : Type 0} → Result A DpeErrorCode → ℕ
+word_of (Ok x) = 0
+word_of (Err e) = outer_of e * 2 ^ 32 + inner_of e

@@ -2,10 +2,11 @@
 #![tactic(auto)]
 
 ghost use Rattle.std.specs.Prelude.{◌≡◌};
+ghost use Rattle.error.specs.declared.DpeErrorCode.TheVariants.{InternalError, Validation, Added};
 ghost use Rattle.error.specs.Numbers.{outer_of, inner_of, internal_of, validation_of, added_of, word_of};
 
 // Something that should never occur in a sound table.
-#[derive(Clone, Copy)]
+#[derive(Clone, Copy, Debug, PartialEq, Eq)]
 pub enum InternalErrorCode {
     HandleGenerationExhausted,
     ChildIndexOob,
@@ -16,7 +17,7 @@ pub enum InternalErrorCode {
 }
 
 // A fault of the table; the bad state and type bytes come from reading an image only.
-#[derive(Clone, Copy)]
+#[derive(Clone, Copy, Debug, PartialEq, Eq)]
 pub enum ValidationError {
     MultipleNormalConnectedComponents,
     CyclesInTree,
@@ -48,7 +49,7 @@ pub enum ValidationError {
 }
 
 // The refusals that the Rust has no number for.
-#[derive(Clone, Copy)]
+#[derive(Clone, Copy, Debug, PartialEq, Eq)]
 pub enum AddedErrorCode {
     BadLength,
     WalkLoops,
@@ -56,7 +57,7 @@ pub enum AddedErrorCode {
 }
 
 // A refusal: three cases carry an inner enum.
-#[derive(Clone, Copy)]
+#[derive(Clone, Copy, Debug, PartialEq, Eq)]
 pub enum DpeErrorCode {
     InternalError(InternalErrorCode),
     InvalidCommand,
@@ -69,11 +70,28 @@ pub enum DpeErrorCode {
     Added(AddedErrorCode),
 }
 
-// How a call ends.
-#[derive(Clone, Copy)]
-pub enum Outcome {
-    Done,
-    Refused(DpeErrorCode),
+impl From<InternalErrorCode> for DpeErrorCode {
+    ghost from_gives = { λ i e. e ≡ InternalError i };
+
+    fn from(i: InternalErrorCode) -> DpeErrorCode {
+        DpeErrorCode::InternalError(i)
+    }
+}
+
+impl From<ValidationError> for DpeErrorCode {
+    ghost from_gives = { λ v e. e ≡ Validation v };
+
+    fn from(v: ValidationError) -> DpeErrorCode {
+        DpeErrorCode::Validation(v)
+    }
+}
+
+impl From<AddedErrorCode> for DpeErrorCode {
+    ghost from_gives = { λ a e. e ≡ Added a };
+
+    fn from(a: AddedErrorCode) -> DpeErrorCode {
+        DpeErrorCode::Added(a)
+    }
 }
 
 // The number of an internal error.
@@ -170,18 +188,12 @@ pub fn inner(e: DpeErrorCode) -> u32
     }
 }
 
-fn wide(x: u32) -> u64
-    ensures { result ≡ x }
-{
-    x as u64
-}
-
 // An ending as one word: the outer number in the high half, the inner in the low; 0 for success.
-pub fn word(o: Outcome) -> u64
+pub fn word(o: Result<(), DpeErrorCode>) -> u64
     ensures { result ≡ word_of o }
 {
     match o {
-        Outcome::Done => 0,
-        Outcome::Refused(e) => wide(outer(e)) * 0x1_0000_0000 + wide(inner(e)),
+        Ok(()) => 0,
+        Err(e) => u64::from(outer(e)) * 0x1_0000_0000 + u64::from(inner(e)),
     }
 }

@@ -1,18 +1,13 @@
 -- The worked examples of document 01 that are marked P, as one table: a table, what is asked of it, and what is expected. Assumes nothing: these
 -- are definitions.
-use Rattle.std.specs.Prelude.{List, [], ◌∷◌, ℕ, ◌+◌, ◌*◌, ◌^◌, replicate}
-use Rattle.error.specs.declared.Outcome.{Outcome}
+use Rattle.error.specs.declared.DpeErrorCode.{DpeErrorCode}
+use Rattle.std.specs.Prelude.{List, [], ◌∷◌, ℕ, ◌+◌, ◌*◌, ◌^◌, replicate, Result, Ok, Err}
 use Rattle.error.specs.Numbers.{word_of}
-use Rattle.children.specs.declared.Answer.{Answer}
-use Rattle.children.specs.declared.Answer.TheVariants as answer
-use Rattle.error.specs.declared.Outcome.TheVariants as outcome
 use Rattle.children.specs.Marks.{slot_count}
 use Rattle.context.specs.declared.ContextState.{ContextState}
 use Rattle.context.specs.declared.ContextState.TheVariants.{Active, Retired}
 use Rattle.context.specs.declared.Context.{Context}
 use Rattle.table.specs.declared.state.State.{State}
-use Rattle.table.specs.declared.state.Found.{Found}
-use Rattle.table.specs.declared.state.Found.TheVariants as found
 use Rattle.table.specs.declared.state.NewHandle.{NewHandle}
 use Rattle.handle.specs.Handle.{handle_size}
 use Rattle.context.specs.Context.{no_parent, new_context, slot_of}
@@ -48,14 +43,14 @@ pub record Result : Type 0 where
 abbrev pub verdict_word : State → ℕ
 verdict_word t = word_of (outcome_of (verdict_of t))
 
-abbrev pub slot_value : Found → List ℕ
-slot_value (found.At i) = i ∷ []
-slot_value (found.Refused e) = []
+abbrev pub slot_value : Result ℕ DpeErrorCode → List ℕ
+slot_value (Ok i) = i ∷ []
+slot_value (Err e) = []
 
 -- values that stand for success alone
-abbrev pub values_if : Outcome → List ℕ → List ℕ
-values_if outcome.Done v = v
-values_if (outcome.Refused e) v = []
+abbrev pub values_if : Result Unit DpeErrorCode → List ℕ → List ℕ
+values_if (Ok tt) v = v
+values_if (Err e) v = []
 
 abbrev pub initialised : ℕ → NewHandle → Result
 initialised l n = record {
@@ -71,15 +66,15 @@ destroyed_result d = record {
   verdict = verdict_word d.state;
 }
 
-abbrev pub marks_result : State → Answer → Result
-marks_result t (answer.Marks m) = record { word = word_of outcome.Done; values = m ∷ []; verdict = verdict_word t }
-marks_result t (answer.Refused e) = record { word = word_of (outcome.Refused e); values = []; verdict = verdict_word t }
+abbrev pub marks_result : State → Result ℕ DpeErrorCode → Result
+marks_result t (Ok m) = record { word = word_of (Ok tt); values = m ∷ []; verdict = verdict_word t }
+marks_result t (Err e) = record { word = word_of (Err e); values = []; verdict = verdict_word t }
 
 abbrev pub handle_of : ℕ → List ℕ
 handle_of b = replicate handle_size b
 
 abbrev pub result_of : State → Asked → Result
-result_of t verdict_only = record { word = word_of outcome.Done; values = []; verdict = verdict_word t }
+result_of t verdict_only = record { word = word_of (Ok tt); values = []; verdict = verdict_word t }
 result_of t (initialise flags l b) = initialised l (initialized_of t flags l b)
 result_of t (destroy b) = destroyed_result (destroy_of t (handle_of b) 7)
 result_of t (descendants i) = marks_result t (descendants_in slot_count (slot_of t.contexts) i)

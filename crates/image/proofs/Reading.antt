@@ -1,4 +1,5 @@
 -- Laws of reading a whole image. Assumes nothing.
+use Rattle.std.specs.Prelude.{Result, Ok, Err}
 use mathlib.Core.Path.{◌≡◌, refl, sym, ap, ◌∙◌}
 use mathlib.Core.List.{List}
 use Prim.Native.Nat.{ℕ, zero, suc, ◌+◌, ◌≤◌, ◌<◌}
@@ -8,8 +9,6 @@ use native.Mathlib.Omega.{arith}
 use borrow.Author.Tests.{eq-eqb, ne_eqb}
 use lib.ListN.{length, take, get_or, replicate}
 use lib.Seq.{take_all}
-use Rattle.error.specs.declared.Outcome.{Outcome}
-use Rattle.error.specs.declared.Outcome.TheVariants.{Done, Refused}
 use Rattle.error.specs.declared.DpeErrorCode.{DpeErrorCode}
 use Rattle.error.specs.declared.DpeErrorCode.TheVariants.{Added}
 use Rattle.error.specs.declared.AddedErrorCode.TheVariants.{BadLength}
@@ -46,11 +45,11 @@ state-slot l i h = list_of-at (slot_in l) slot_count i no_context h
 
 module _ (l : List ℕ) where
   -- one slot more that is read, and one that refuses
-  pub slots_on : (i : ℕ) → slots_answer i l ≡ Done → context_answer (slot_bytes l i) ≡ Done → slots_answer (i + 1) l ≡ Done
+  pub slots_on : (i : ℕ) → slots_answer i l ≡ Ok tt → context_answer (slot_bytes l i) ≡ Ok tt → slots_answer (i + 1) l ≡ Ok tt
   unfolding slots_answer
   slots_on i p q = rw (add-one i, slots_answer, p) q
 
-  stay : (e : DpeErrorCode) (i n : ℕ) → i ≤ n → slots_answer i l ≡ Refused e → slots_answer n l ≡ Refused e
+  stay : (e : DpeErrorCode) (i n : ℕ) → i ≤ n → slots_answer i l ≡ Err e → slots_answer n l ≡ Err e
   unfolding slots_answer
   stay e i zero h p = let z : i ≡ 0 = omega arith in rw z at p
   stay e i (suc n) h p = elim (ℕ_discrete i (suc n)) [
@@ -58,24 +57,24 @@ module _ (l : List ℕ) where
     | no ne ↦ rw (stay e i n (omega arith) p)
   ]
 
-  pub slots_stop : (e : DpeErrorCode) (i n : ℕ) → i < n → slots_answer i l ≡ Done → context_answer (slot_bytes l i) ≡ Refused e → slots_answer n l ≡ Refused e
+  pub slots_stop : (e : DpeErrorCode) (i n : ℕ) → i < n → slots_answer i l ≡ Ok tt → context_answer (slot_bytes l i) ≡ Err e → slots_answer n l ≡ Err e
   unfolding slots_answer
   slots_stop e i n h p q = stay e (suc i) n h (rw p q)
 
   -- every slot of an image that reads is good, and an image of good slots reads
-  pub slots_good : (n : ℕ) → slots_answer n l ≡ Done → (i : ℕ) → i < n → context_answer (slot_bytes l i) ≡ Done
+  pub slots_good : (n : ℕ) → slots_answer n l ≡ Ok tt → (i : ℕ) → i < n → context_answer (slot_bytes l i) ≡ Ok tt
   unfolding slots_answer
   slots_good zero p i h = absurd (omega arith)
   slots_good (suc n) p i h =
       let w = first_done (slots_answer n l) (context_answer (slot_bytes l n)) p in
       elim (ℕ_discrete i n) [ yes q ↦ rw q w.1 | no ne ↦ slots_good n w.0 i (omega arith) ]
 
-  pub good-slots : (n : ℕ) → ((i : ℕ) → i < n → context_answer (slot_bytes l i) ≡ Done) → slots_answer n l ≡ Done
+  pub good-slots : (n : ℕ) → ((i : ℕ) → i < n → context_answer (slot_bytes l i) ≡ Ok tt) → slots_answer n l ≡ Ok tt
   unfolding slots_answer
   good-slots zero f = refl
   good-slots (suc n) f = rw (good-slots n (λ i h. f i (omega arith))) (f n (omega arith))
 
-  pub read_short : (length l ≡ state_size → ⊥) → Refused (Added BadLength) ≡ readable_of l
+  pub read_short : (length l ≡ state_size → ⊥) → Err (Added BadLength) ≡ readable_of l
   unfolding readable_of
   read_short h = rw (ne_eqb _ _ h)
 
@@ -84,16 +83,16 @@ module _ (l : List ℕ) where
   read-slots h = rw (eq-eqb _ _ h)
 
   -- an image reads where it is as long as one and every slot is good
-  pub readable-size : readable_of l ≡ Done → length l ≡ state_size
+  pub readable-size : readable_of l ≡ Ok tt → length l ≡ state_size
   readable-size p = elim (ℕ_discrete (length l) state_size) [
     | yes q ↦ q
     | no ne ↦ let r = read_short ne in absurd (let z : ◌≡◌ {A = ℕ} 0 1 = cc in omega arith)
   ]
 
-  pub readable_good : readable_of l ≡ Done → (i : ℕ) → i < slot_count → context_answer (slot_bytes l i) ≡ Done
+  pub readable_good : readable_of l ≡ Ok tt → (i : ℕ) → i < slot_count → context_answer (slot_bytes l i) ≡ Ok tt
   readable_good p = slots_good slot_count (read-slots (readable-size p) ∙ p)
 
-  pub good_readable : length l ≡ state_size → ((i : ℕ) → i < slot_count → context_answer (slot_bytes l i) ≡ Done) → readable_of l ≡ Done
+  pub good_readable : length l ≡ state_size → ((i : ℕ) → i < slot_count → context_answer (slot_bytes l i) ≡ Ok tt) → readable_of l ≡ Ok tt
   good_readable n f = sym (read-slots n) ∙ good-slots slot_count f
 
 -- ---- whether it reads, in one pass
@@ -107,22 +106,22 @@ module _ (l : List ℕ) where
   unfolding is_readable
   is_whole h = rw (eq-eqb _ _ h)
 
-  pub readable_done : is_readable l ≡ true → readable_of l ≡ Done
+  pub readable_done : is_readable l ≡ true → readable_of l ≡ Ok tt
   unfolding is_readable
   readable_done e =
       let w = and-true _ _ e in
       good_readable l (eqb-true _ _ w.0) (λ i h. good_done (slot_bytes l i) (every-at (good_slot l) slot_count w.1 i h))
 
-  done_readable : readable_of l ≡ Done → is_readable l ≡ true
+  done_readable : readable_of l ≡ Ok tt → is_readable l ≡ true
   unfolding is_readable
   done_readable p = and_both (eq-eqb _ _ (readable-size l p)) (at_every (good_slot l) slot_count (λ i h. done_good (slot_bytes l i) (readable_good l p i h)))
 
-  by_answer : (o : Outcome) → readable_of l ≡ o → is_readable l ≡ false → (x : DpeErrorCode) × (readable_of l ≡ Refused x)
-  by_answer Done p e = clash (done_readable p) e
-  by_answer (Refused x) p e = (x, p)
+  by_answer : (o : Result Unit DpeErrorCode) → readable_of l ≡ o → is_readable l ≡ false → (x : DpeErrorCode) × (readable_of l ≡ Err x)
+  by_answer (Ok tt) p e = clash (done_readable p) e
+  by_answer (Err x) p e = (x, p)
 
   -- where it does not, a refusal says why
-  pub not_readable : is_readable l ≡ false → (x : DpeErrorCode) × (readable_of l ≡ Refused x)
+  pub not_readable : is_readable l ≡ false → (x : DpeErrorCode) × (readable_of l ≡ Err x)
   not_readable = by_answer (readable_of l) refl
 
 -- ---- what reading gives
@@ -132,11 +131,11 @@ module _ (l : List ℕ) where
   unfolding read_state
   read_answer = refl
 
-  pub read_done : readable_of l ≡ Done → read_state l ≡ record { answer = Done; state = decode_state l }
+  pub read_done : readable_of l ≡ Ok tt → read_state l ≡ record { answer = Ok tt; state = decode_state l }
   unfolding read_state state_beside
   read_done p = rw p
 
-  pub read_refused : (e : DpeErrorCode) → readable_of l ≡ Refused e → read_state l ≡ record { answer = Refused e; state = blank_state }
+  pub read_refused : (e : DpeErrorCode) → readable_of l ≡ Err e → read_state l ≡ record { answer = Err e; state = blank_state }
   unfolding read_state state_beside
   read_refused e p = rw p
 
@@ -151,10 +150,10 @@ pub state_made : (l : List ℕ) {m v : ℕ} {cs : List Context} {p f : ℕ} → 
 unfolding decode_state
 state_made l em ev ec ep ef = cc
 
-pub done_made : (l : List ℕ) {a : Outcome} {t : State} → a ≡ readable_of l → a ≡ Done → t ≡ decode_state l → record { answer = a; state = t } ≡ read_state l
+pub done_made : (l : List ℕ) {a : Result Unit DpeErrorCode} {t : State} → a ≡ readable_of l → a ≡ Ok tt → t ≡ decode_state l → record { answer = a; state = t } ≡ read_state l
 done_made l e d q = cc (read_done l (sym e ∙ d))
 
-pub refused_made : (l : List ℕ) {a : Outcome} {t : State} {e : DpeErrorCode} → a ≡ readable_of l → a ≡ Refused e → t ≡ blank_state → record { answer = a; state = t } ≡ read_state l
+pub refused_made : (l : List ℕ) {a : Result Unit DpeErrorCode} {t : State} {e : DpeErrorCode} → a ≡ readable_of l → a ≡ Err e → t ≡ blank_state → record { answer = a; state = t } ≡ read_state l
 refused_made l {e = e} p d q = cc (read_refused l e (sym p ∙ d))
 
 pub blank_made : {c : Context} → c ≡ blank_context

@@ -1,4 +1,5 @@
 -- Laws of writing a whole table: how long what is written is, and that fields written one after the other are the whole. Assumes nothing.
+use Rattle.std.specs.Prelude.{Ok, Err}
 use mathlib.Core.Path.{◌≡◌, refl, sym, ap, ◌∙◌}
 use mathlib.Core.List.{List, [], ◌∷◌, ◌++◌, append_assoc, append-nil}
 use Prim.Native.Nat.{ℕ, zero, suc, ◌+◌, ◌*◌, ◌≤◌, ◌<◌}
@@ -8,7 +9,6 @@ use borrow.Author.Tests.{eq-eqb, ne_eqb}
 use borrow.Rule.Slice.PartMut.{put_mid}
 use lib.ListN.{length, take, set, length-append}
 use lib.Seq.{take-suc, take-length}
-use Rattle.error.specs.declared.Outcome.TheVariants.{Done, Refused}
 use Rattle.error.specs.declared.DpeErrorCode.TheVariants.{Added}
 use Rattle.error.specs.declared.AddedErrorCode.TheVariants.{BadLength}
 use Rattle.children.specs.Marks.{slot_count}
@@ -100,10 +100,10 @@ state-put t l {l₅ = l₅} f n n₅ p₁ p₂ p₃ p₄ p₅ =
     w₆.bytes ∙ put_all _ l (w₆.size ∙ sym n)
 
 module _ (t : State) (l : List ℕ) where
-  pub write_short : (length l ≡ state_size → ⊥) → (Refused (Added BadLength) ≡ write_answer l) × (l ≡ written t l)
+  pub write_short : (length l ≡ state_size → ⊥) → (Err (Added BadLength) ≡ write_answer l) × (l ≡ written t l)
   unfolding write_answer written
   write_short h = (rw (ne_eqb _ _ h), rw (ne_eqb _ _ h))
 
-  pub write_whole : length l ≡ state_size → (Done ≡ write_answer l) × (encode_state t ≡ written t l)
+  pub write_whole : length l ≡ state_size → (Ok tt ≡ write_answer l) × (encode_state t ≡ written t l)
   unfolding write_answer written
   write_whole e = (rw (eq-eqb _ _ e), rw (eq-eqb _ _ e))

@@ -1,8 +1,7 @@
 -- The state image, from document 01's offsets; those behind the contexts follow from the number of slots, and `proofs/Reading.antt` shows that they
 -- are document 01's numbers. Assumes nothing: these are definitions.
-use Rattle.std.specs.Prelude.{ℕ, zero, suc, ◌+◌, ◌*◌, Bool, cond, ◌&&◌, List, [], ◌∷◌, ◌++◌, length, get_or, replicate, eqb}
-use Rattle.error.specs.declared.Outcome.{Outcome}
-use Rattle.error.specs.declared.Outcome.TheVariants.{Done, Refused}
+use Rattle.error.specs.declared.DpeErrorCode.{DpeErrorCode}
+use Rattle.std.specs.Prelude.{ℕ, zero, suc, ◌+◌, ◌*◌, Bool, cond, ◌&&◌, List, [], ◌∷◌, ◌++◌, length, get_or, replicate, eqb, Result, Ok, Err}
 use Rattle.error.specs.declared.DpeErrorCode.TheVariants.{Added}
 use Rattle.error.specs.declared.AddedErrorCode.TheVariants.{BadLength}
 use Rattle.children.specs.Below.{every, list_of}
@@ -49,16 +48,16 @@ decode_state l = record {
 }
 
 -- a, where l is as long as an image, and BadLength elsewhere
-abbrev pub if_whole : List ℕ → Outcome → Outcome
-if_whole l a = cond (eqb (length l) state_size) a (Refused (Added BadLength))
+abbrev pub if_whole : List ℕ → Result Unit DpeErrorCode → Result Unit DpeErrorCode
+if_whole l a = cond (eqb (length l) state_size) a (Err (Added BadLength))
 
 -- the first refusal of the slots below n, upward
-unfoldable pub slots_answer : ℕ → List ℕ → Outcome
-slots_answer zero l = Done
+unfoldable pub slots_answer : ℕ → List ℕ → Result Unit DpeErrorCode
+slots_answer zero l = Ok tt
 slots_answer (suc n) l = first (slots_answer n l) (context_answer (slot_bytes l n))
 
 -- what reading an image answers
-unfoldable pub readable_of : List ℕ → Outcome
+unfoldable pub readable_of : List ℕ → Result Unit DpeErrorCode
 readable_of l = if_whole l (slots_answer slot_count l)
 
 -- slot i is good
@@ -74,9 +73,9 @@ unfoldable pub blank_state : State
 blank_state = decode_state (replicate state_size 0)
 
 -- the table that stands beside an answer
-unfoldable pub state_beside : Outcome → List ℕ → State
-state_beside Done l = decode_state l
-state_beside (Refused e) l = blank_state
+unfoldable pub state_beside : Result Unit DpeErrorCode → List ℕ → State
+state_beside (Ok tt) l = decode_state l
+state_beside (Err e) l = blank_state
 
 -- what reading an image gives
 unfoldable pub read_state : List ℕ → StateRead
@@ -96,8 +95,8 @@ encode_state t =
     ++ (t.has_initialized ∷ t.reserved ∷ [])
 
 -- what writing into l answers
-unfoldable pub write_answer : List ℕ → Outcome
-write_answer l = if_whole l Done
+unfoldable pub write_answer : List ℕ → Result Unit DpeErrorCode
+write_answer l = if_whole l (Ok tt)
 
 -- what l holds after writing: the image, or what it held where it is no image's length
 unfoldable pub written : State → List ℕ → List ℕ

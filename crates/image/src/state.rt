@@ -5,7 +5,7 @@ ghost use Rattle.children.specs.Marks.{slot_count};
 ghost use Rattle.image.specs.State.{state_size, good_slot, is_readable, readable_of};
 
 use children::MAX_HANDLES;
-use error::{AddedErrorCode, DpeErrorCode, Outcome};
+use error::{AddedErrorCode, DpeErrorCode};
 use table::state::State;
 
 // Where the fields of a state lie in it; the contexts stand one after the other, and four more fields follow them.
@@ -28,7 +28,7 @@ pub const SIZE: usize = SUPPORT_AT + 8;
 // What reading gives: how it ended, and the table, which is that of all zero bytes for a refusal.
 #[derive(Clone, Copy)]
 pub struct StateRead {
-    pub answer: Outcome,
+    pub answer: Result<(), DpeErrorCode>,
     pub state: State,
 }
 
@@ -55,17 +55,17 @@ pub fn is_readable(image: &[u8]) -> bool
 }
 
 // What reading the image answers; nothing is built.
-pub fn readable(image: &[u8]) -> Outcome
+pub fn readable(image: &[u8]) -> Result<(), DpeErrorCode>
     ensures { result ≡ readable_of image.now }
 {
     if image.len() != SIZE {
-        return Outcome::Refused(DpeErrorCode::Added(AddedErrorCode::BadLength));
+        return Err(DpeErrorCode::Added(AddedErrorCode::BadLength));
     }
     for slot in 0..MAX_HANDLES {
         let answer = image_kinds::answer_at(image, CONTEXTS_AT + image_context::SIZE * slot);
-        let Outcome::Done = answer else {
+        let Ok(()) = answer else {
             return answer;
         };
     }
-    Outcome::Done
+    Ok(())
 }

@@ -1,7 +1,6 @@
 -- The type byte and the state byte of a context of the image, and what reading them answers. Assumes nothing: these are definitions.
-use Rattle.std.specs.Prelude.{ℕ, ◌+◌, ◌*◌, ◌%◌, Bool, cond, ◌&&◌, List, get_or, ltb}
-use Rattle.error.specs.declared.Outcome.{Outcome}
-use Rattle.error.specs.declared.Outcome.TheVariants.{Done, Refused}
+use Rattle.error.specs.declared.DpeErrorCode.{DpeErrorCode}
+use Rattle.std.specs.Prelude.{ℕ, ◌+◌, ◌*◌, ◌%◌, Bool, cond, ◌&&◌, List, get_or, ltb, Result, Ok, Err}
 use Rattle.error.specs.declared.DpeErrorCode.TheVariants.{Validation}
 use Rattle.error.specs.declared.ValidationError.TheVariants.{BadContextState, BadContextType}
 
@@ -17,19 +16,19 @@ abbrev pub state_byte_in : List ℕ → ℕ
 state_byte_in l = get_or l 138 0
 
 -- a state byte is 0 to 2, and a type byte 0 or 1
-abbrev pub state_answer : ℕ → Outcome
-state_answer b = cond (ltb b 3) Done (Refused (Validation BadContextState))
+abbrev pub state_answer : ℕ → Result Unit DpeErrorCode
+state_answer b = cond (ltb b 3) (Ok tt) (Err (Validation BadContextState))
 
-abbrev pub type_answer : ℕ → Outcome
-type_answer b = cond (ltb b 2) Done (Refused (Validation BadContextType))
+abbrev pub type_answer : ℕ → Result Unit DpeErrorCode
+type_answer b = cond (ltb b 2) (Ok tt) (Err (Validation BadContextType))
 
 -- the first refusal of two answers
-abbrev pub first : Outcome → Outcome → Outcome
-first Done b = b
-first (Refused e) b = Refused e
+abbrev pub first : Result Unit DpeErrorCode → Result Unit DpeErrorCode → Result Unit DpeErrorCode
+first (Ok tt) b = b
+first (Err e) b = Err e
 
 -- what reading a context answers: the state byte is tested, and then the type byte
-unfoldable pub context_answer : List ℕ → Outcome
+unfoldable pub context_answer : List ℕ → Result Unit DpeErrorCode
 context_answer l = first (state_answer (state_byte_in l)) (type_answer (type_byte_in l))
 
 -- both bytes are in range

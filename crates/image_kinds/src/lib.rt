@@ -5,7 +5,7 @@ ghost use Rattle.std.specs.Prelude.{◌≡◌, ◌+◌, ◌≤◌, length};
 ghost use Rattle.wire.specs.Le.{part};
 ghost use Rattle.image_kinds.specs.Kinds.{context_size, state_answer, type_answer, first, context_answer, kind_word, good_word};
 
-use error::{DpeErrorCode, Outcome, ValidationError};
+use error::{DpeErrorCode, ValidationError};
 
 // Where the two bytes lie in a context.
 pub const CONTEXT_TYPE_AT: usize = 137;
@@ -13,37 +13,37 @@ pub const CONTEXT_TYPE_AT: usize = 137;
 pub const STATE_AT: usize = 138;
 
 // Whether a state byte says a state.
-fn state_answer(b: u8) -> Outcome
+fn state_answer(b: u8) -> Result<(), DpeErrorCode>
     ensures { result ≡ state_answer b }
 {
     if b >= 3 {
-        return Outcome::Refused(DpeErrorCode::Validation(ValidationError::BadContextState));
+        return Err(DpeErrorCode::Validation(ValidationError::BadContextState));
     }
-    Outcome::Done
+    Ok(())
 }
 
 // Whether a type byte says a type.
-fn type_answer(b: u8) -> Outcome
+fn type_answer(b: u8) -> Result<(), DpeErrorCode>
     ensures { result ≡ type_answer b }
 {
     if b >= 2 {
-        return Outcome::Refused(DpeErrorCode::Validation(ValidationError::BadContextType));
+        return Err(DpeErrorCode::Validation(ValidationError::BadContextType));
     }
-    Outcome::Done
+    Ok(())
 }
 
 // The first refusal of two answers.
-fn first_of(a: Outcome, b: Outcome) -> Outcome
+fn first_of(a: Result<(), DpeErrorCode>, b: Result<(), DpeErrorCode>) -> Result<(), DpeErrorCode>
     ensures { result ≡ first a b }
 {
     match a {
-        Outcome::Done => b,
-        Outcome::Refused(_) => a,
+        Ok(()) => b,
+        Err(_) => a,
     }
 }
 
 // What reading the context at `at` answers.
-pub fn answer_at(image: &[u8], at: usize) -> Outcome
+pub fn answer_at(image: &[u8], at: usize) -> Result<(), DpeErrorCode>
     requires { at + context_size ≤ length image.now }
     ensures { result ≡ context_answer (part at context_size image.now) }
 {

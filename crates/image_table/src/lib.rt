@@ -9,7 +9,7 @@ ghost use Rattle.image.specs.State.{contexts_at, state_size, slot_in, decode_sta
 
 use children::MAX_HANDLES;
 use context::Context;
-use error::{AddedErrorCode, DpeErrorCode, Outcome};
+use error::{AddedErrorCode, DpeErrorCode};
 use image::state;
 use image::state::StateRead;
 use table::state::State;
@@ -75,7 +75,7 @@ pub fn read_state(image: &[u8]) -> StateRead
     ensures { result ≡ read_state image.now }
 {
     let answer = state::readable(image);
-    let Outcome::Done = answer else {
+    let Ok(()) = answer else {
         let state = blank();
         return StateRead { answer, state };
     };
@@ -97,12 +97,12 @@ fn write_contexts(state: State, out: &mut [u8])
 }
 
 // The table into the buffer, which has to be as long as an image: else nothing is written.
-pub fn write_state(state: State, out: &mut [u8]) -> Outcome
+pub fn write_state(state: State, out: &mut [u8]) -> Result<(), DpeErrorCode>
     ensures value { result ≡ write_answer out.old }
     ensures out_after { out.new ≡ written state out.old }
 {
     if out.len() != state::SIZE {
-        return Outcome::Refused(DpeErrorCode::Added(AddedErrorCode::BadLength));
+        return Err(DpeErrorCode::Added(AddedErrorCode::BadLength));
     }
     wire::write_u32(out, state::MARKER_AT, state.marker);
     wire::write_u32(out, state::VERSION_AT, state.version);
@@ -111,5 +111,5 @@ pub fn write_state(state: State, out: &mut [u8]) -> Outcome
     wire::write_u16(out, state::FLAGS_AT, state.flags);
     out[state::HAS_INITIALIZED_AT] = state.has_initialized;
     out[state::RESERVED_AT] = state.reserved;
-    Outcome::Done
+    Ok(())
 }

@@ -1,4 +1,5 @@
 -- Laws of initialise: what the slot that it takes satisfies, what the tests answer in their order, and how a call ends. Assumes nothing.
+use Rattle.std.specs.Prelude.{Result, Ok, Err}
 use mathlib.Core.Path.{◌≡◌, refl, sym, ap, ◌∙◌}
 use mathlib.Core.Logic.{inl, inr}
 use mathlib.Core.Bool.{Bool, true, false, not, ◌&&◌, ◌||◌, beq}
@@ -8,16 +9,12 @@ use native.Mathlib.Decide.{dec_lt}
 use native.Mathlib.Omega.{arith}
 use Rattle.error.specs.declared.DpeErrorCode.{DpeErrorCode}
 use Rattle.error.specs.declared.DpeErrorCode.TheVariants.{ArgumentNotSupported, InvalidArgument, MaxTcis}
-use Rattle.error.specs.declared.Outcome.{Outcome}
-use Rattle.error.specs.declared.Outcome.TheVariants as outcome
 use Rattle.children.specs.Below.{lowest}
 use Rattle.children.specs.Marks.{slot_count, marked}
 use Rattle.children.proofs.Cases.{two, clash, and_both, or_left, or_right, or_none}
 use Rattle.children.proofs.Below.{low_bare, low_passes}
 use Rattle.context.specs.declared.Context.{Context}
 use Rattle.table.specs.declared.state.State.{State}
-use Rattle.table.specs.declared.state.Found.{Found}
-use Rattle.table.specs.declared.state.Found.TheVariants.{At, Refused}
 use Rattle.table.specs.declared.state.NewHandle.{NewHandle}
 use Rattle.context.specs.declared.ContextType.TheVariants.{Simulation}
 use Rattle.handle.specs.Handle.{default_handle}
@@ -44,7 +41,7 @@ pub record Free (n : ℕ) (s : ℕ → Context) (i : ℕ) : Type 0 where
   pub idle : idle_at s i ≡ true
   pub lowest : (j : ℕ) → j < i → idle_at s j ≡ false
 
-never : {A : Type 0} {i : ℕ} {e : DpeErrorCode} → At i ≡ Refused e → A
+never : {A : Type 0} {i : ℕ} {e : DpeErrorCode} → Ok i ≡ Err e → A
 never p = absurd (let z : ◌≡◌ {A = ℕ} 0 1 = cc in omega arith)
 
 module _ (n : ℕ) (s : ℕ → Context) where
@@ -55,13 +52,13 @@ module _ (n : ℕ) (s : ℕ → Context) where
     lowest = λ j h. low_bare (idle_at s) n 0 j (omega arith) (omega arith);
   }
 
-  pub free-is : (i : ℕ) → free_in n s ≡ At i → Free n s i
+  pub free-is : (i : ℕ) → free_in n s ≡ Ok i → Free n s i
   free-is i e = elim (dec_lt (lowest (idle_at s) n) n) [
     | yes b ↦ let q : lowest (idle_at s) n ≡ i = cc (free-at n s _ refl b) in at_low i q (omega arith)
     | no nb ↦ never (sym e ∙ sym (free_none n s (omega arith)))
   ]
 
-  pub free_refused : (e : DpeErrorCode) → free_in n s ≡ Refused e → e ≡ MaxTcis
+  pub free_refused : (e : DpeErrorCode) → free_in n s ≡ Err e → e ≡ MaxTcis
   free_refused e p = elim (dec_lt (lowest (idle_at s) n) n) [
     | yes b ↦ never (free-at n s _ refl b ∙ p)
     | no nb ↦ cc (free_none n s (omega arith))
@@ -70,13 +67,13 @@ module _ (n : ℕ) (s : ℕ → Context) where
 -- ---- simulation, with the candidate that was chosen
 
 module _ (t : State) (l i : ℕ) (b : List ℕ) (ch : Chosen) (is : ch ≡ chosen_in slot_count (slot_of t.contexts) b) where
-  pub not_chosen : (e : DpeErrorCode) → ch.answer ≡ outcome.Refused e
+  pub not_chosen : (e : DpeErrorCode) → ch.answer ≡ Err e
       → ◌≡◌ {A = NewHandle} (record { answer = ch.answer; handle = ch.handle; state = t }) (simulation_of t l i b)
   not_chosen e a =
       let h : ch.handle ≡ default_handle = rw is (untaken slot_count (slot_of t.contexts) b e (rw is at a)).handle in
       rw (← is, a, h)
 
-  pub chosen : ch.answer ≡ outcome.Done
+  pub chosen : ch.answer ≡ Ok tt
       → ◌≡◌ {A = NewHandle} (record { answer = ch.answer; handle = ch.handle; state = with_slot t i (active_context (root_args Simulation ch.handle l false)) }) (simulation_of t l i b)
   chosen a = rw (← is, a)
 
@@ -94,18 +91,18 @@ module _ (t : State) (flags l : ℕ) (b : List ℕ) where
 
     module _ (one : both_or_neither flags ≡ false) where
       -- the slot decides
-      pub by-slot : (f : Found) → free_in slot_count (slot_of t.contexts) ≡ f → initialized_of t flags l b ≡ activated_in t flags l b f
+      pub by-slot : (f : Result ℕ DpeErrorCode) → free_in slot_count (slot_of t.contexts) ≡ f → initialized_of t flags l b ≡ activated_in t flags l b f
       unfolding initialized_of
       by-slot f e = rw (ok, one, e)
 
-      pub no_slot : (e : DpeErrorCode) → free_in slot_count (slot_of t.contexts) ≡ Refused e → initialized_of t flags l b ≡ refused_of t MaxTcis
-      no_slot e p = by-slot (Refused e) p ∙ ap (refused_of t) (free_refused slot_count (slot_of t.contexts) e p)
+      pub no_slot : (e : DpeErrorCode) → free_in slot_count (slot_of t.contexts) ≡ Err e → initialized_of t flags l b ≡ refused_of t MaxTcis
+      no_slot e p = by-slot (Err e) p ∙ ap (refused_of t) (free_refused slot_count (slot_of t.contexts) e p)
 
-      pub default-slot : (i : ℕ) → free_in slot_count (slot_of t.contexts) ≡ At i → marked flags init_default_bit ≡ true → initialized_of t flags l b ≡ default_in t l i
-      default-slot i p d = by-slot (At i) p ∙ rw d
+      pub default-slot : (i : ℕ) → free_in slot_count (slot_of t.contexts) ≡ Ok i → marked flags init_default_bit ≡ true → initialized_of t flags l b ≡ default_in t l i
+      default-slot i p d = by-slot (Ok i) p ∙ rw d
 
-      pub simulation-slot : (i : ℕ) → free_in slot_count (slot_of t.contexts) ≡ At i → marked flags init_default_bit ≡ false → initialized_of t flags l b ≡ simulation_of t l i b
-      simulation-slot i p d = by-slot (At i) p ∙ rw d
+      pub simulation-slot : (i : ℕ) → free_in slot_count (slot_of t.contexts) ≡ Ok i → marked flags init_default_bit ≡ false → initialized_of t flags l b ≡ simulation_of t l i b
+      simulation-slot i p d = by-slot (Ok i) p ∙ rw d
 
 -- ---- what an answer tells
 
@@ -133,7 +130,7 @@ pub data Ended (t : State) (flags l : ℕ) (b : List ℕ) : Type 0 where
 
 module _ (t : State) (flags l : ℕ) (b : List ℕ) where
   module _ (ok : not_supported t.support t.has_initialized flags ≡ false) (one : both_or_neither flags ≡ false) where
-    as-default : (i : ℕ) → free_in slot_count (slot_of t.contexts) ≡ At i → marked flags init_default_bit ≡ true → AsDefault t flags l b
+    as-default : (i : ℕ) → free_in slot_count (slot_of t.contexts) ≡ Ok i → marked flags init_default_bit ≡ true → AsDefault t flags l b
     as-default i p d = record {
       slot = i;
       free = free-is slot_count (slot_of t.contexts) i p;
@@ -150,8 +147,8 @@ module _ (t : State) (flags l : ℕ) (b : List ℕ) where
       | inr nm ↦ clash (or_right (marked flags init_default_bit && marked flags init_simulation_bit) _ (ap not (or_none d nm))) one
     ]
 
-    as-simulation : (i : ℕ) → free_in slot_count (slot_of t.contexts) ≡ At i → marked flags init_default_bit ≡ false
-        → (chosen_in slot_count (slot_of t.contexts) b).answer ≡ outcome.Done → AsSimulation t flags l b
+    as-simulation : (i : ℕ) → free_in slot_count (slot_of t.contexts) ≡ Ok i → marked flags init_default_bit ≡ false
+        → (chosen_in slot_count (slot_of t.contexts) b).answer ≡ Ok tt → AsSimulation t flags l b
     as-simulation i p d a = record {
       slot = i;
       free = free-is slot_count (slot_of t.contexts) i p;
@@ -164,14 +161,14 @@ module _ (t : State) (flags l : ℕ) (b : List ℕ) where
       is = simulation-slot t flags l b ok one i p d ∙ rw a;
     }
 
-    by_choice : (i : ℕ) → free_in slot_count (slot_of t.contexts) ≡ At i → marked flags init_default_bit ≡ false
-        → (o : Outcome) → (chosen_in slot_count (slot_of t.contexts) b).answer ≡ o → Ended t flags l b
-    by_choice i p d outcome.Done a = simulation_made (as-simulation i p d a)
-    by_choice i p d (outcome.Refused e) a = nothing_made e (simulation-slot t flags l b ok one i p d ∙ rw a)
+    by_choice : (i : ℕ) → free_in slot_count (slot_of t.contexts) ≡ Ok i → marked flags init_default_bit ≡ false
+        → (o : Result Unit DpeErrorCode) → (chosen_in slot_count (slot_of t.contexts) b).answer ≡ o → Ended t flags l b
+    by_choice i p d (Ok tt) a = simulation_made (as-simulation i p d a)
+    by_choice i p d (Err e) a = nothing_made e (simulation-slot t flags l b ok one i p d ∙ rw a)
 
-    by_free : (f : Found) → free_in slot_count (slot_of t.contexts) ≡ f → Ended t flags l b
-    by_free (Refused e) p = nothing_made MaxTcis (no_slot t flags l b ok one e p)
-    by_free (At i) p = elim (two (marked flags init_default_bit)) [
+    by_free : (f : Result ℕ DpeErrorCode) → free_in slot_count (slot_of t.contexts) ≡ f → Ended t flags l b
+    by_free (Err e) p = nothing_made MaxTcis (no_slot t flags l b ok one e p)
+    by_free (Ok i) p = elim (two (marked flags init_default_bit)) [
       | inl d ↦ default_made (as-default i p d)
       | inr d ↦ by_choice i p d _ refl
     ]
@@ -187,7 +184,7 @@ module _ (t : State) (flags l : ℕ) (b : List ℕ) where
   ]
 
   -- a refusal changes nothing
-  pub refused : (e : DpeErrorCode) → (initialized_of t flags l b).answer ≡ outcome.Refused e → initialized_of t flags l b ≡ refused_of t e
+  pub refused : (e : DpeErrorCode) → (initialized_of t flags l b).answer ≡ Err e → initialized_of t flags l b ≡ refused_of t e
   refused e p = elim ended [
     | nothing_made r q ↦ q ∙ ap (refused_of t) (same_refused (sym (ap (λ (x : NewHandle). x.answer) q) ∙ p))
     | default_made d ↦ never_done (sym (ap (λ (x : NewHandle). x.answer) d.is) ∙ p)

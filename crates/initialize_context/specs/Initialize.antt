@@ -1,15 +1,12 @@
 -- Initialise, over the table t, the flags, the locality l and the bytes b of the lent candidates. Assumes nothing: these are definitions.
-use Rattle.std.specs.Prelude.{Bool, true, false, cond, not, ◌&&◌, ◌||◌, List, ℕ}
+use Rattle.error.specs.declared.DpeErrorCode.{DpeErrorCode}
+use Rattle.std.specs.Prelude.{Bool, true, false, cond, not, ◌&&◌, ◌||◌, List, ℕ, Result, Ok, Err}
 use Rattle.error.specs.declared.DpeErrorCode.TheVariants.{ArgumentNotSupported, InvalidArgument}
-use Rattle.error.specs.declared.Outcome.{Outcome}
-use Rattle.error.specs.declared.Outcome.TheVariants as outcome
 use Rattle.children.specs.Marks.{slot_count, marked}
 use Rattle.context.specs.declared.ContextType.{ContextType}
 use Rattle.context.specs.declared.ContextType.TheVariants.{Normal, Simulation}
 use Rattle.context.specs.declared.ActiveContextArgs.{ActiveContextArgs}
 use Rattle.table.specs.declared.state.State.{State}
-use Rattle.table.specs.declared.state.Found.{Found}
-use Rattle.table.specs.declared.state.Found.TheVariants as found
 use Rattle.table.specs.declared.state.NewHandle.{NewHandle}
 use Rattle.handle.specs.Handle.{default_handle}
 use Rattle.context.specs.Bytes.{is_on}
@@ -49,9 +46,9 @@ abbrev pub default_in : State → ℕ → ℕ → NewHandle
 default_in t l i = handed_of (with_initialized (with_slot t i (active_context (root_args Normal default_handle l true)))) default_handle
 
 -- simulation: slot i is activated with the candidate h, where one was chosen
-abbrev pub simulation_in : State → ℕ → ℕ → List ℕ → Outcome → NewHandle
-simulation_in t l i h outcome.Done = handed_of (with_slot t i (active_context (root_args Simulation h l false))) h
-simulation_in t l i h (outcome.Refused e) = refused_of t e
+abbrev pub simulation_in : State → ℕ → ℕ → List ℕ → Result Unit DpeErrorCode → NewHandle
+simulation_in t l i h (Ok tt) = handed_of (with_slot t i (active_context (root_args Simulation h l false))) h
+simulation_in t l i h (Err e) = refused_of t e
 
 -- simulation: choose a candidate
 abbrev pub simulation_of : State → ℕ → ℕ → List ℕ → NewHandle
@@ -59,9 +56,9 @@ simulation_of t l i b =
     simulation_in t l i (chosen_in slot_count (slot_of t.contexts) b).handle (chosen_in slot_count (slot_of t.contexts) b).answer
 
 -- the lowest inactive slot is activated; there is none: MaxTcis
-abbrev pub activated_in : State → ℕ → ℕ → List ℕ → Found → NewHandle
-activated_in t flags l b (found.At i) = cond (marked flags init_default_bit) (default_in t l i) (simulation_of t l i b)
-activated_in t flags l b (found.Refused e) = refused_of t e
+abbrev pub activated_in : State → ℕ → ℕ → List ℕ → Result ℕ DpeErrorCode → NewHandle
+activated_in t flags l b (Ok i) = cond (marked flags init_default_bit) (default_in t l i) (simulation_of t l i b)
+activated_in t flags l b (Err e) = refused_of t e
 
 -- in order: ArgumentNotSupported, InvalidArgument, the slot
 unfoldable pub initialized_of : State → ℕ → ℕ → List ℕ → NewHandle

@@ -7,8 +7,8 @@ ghost use Rattle.context.specs.Context.{active_context};
 ghost use Rattle.initialize_context.specs.Initialize.{not_supported, both_or_neither, root_args, default_in, simulation_of, initialized_of};
 
 use context::{ActiveContextArgs, Context, ContextType, ROOT_INDEX, u8bool};
-use error::{DpeErrorCode, Outcome};
-use table::state::{Found, NewHandle, State};
+use error::DpeErrorCode;
+use table::state::{NewHandle, State};
 use table::{flags, state, support};
 
 // Whether the default context is asked for again, or a simulation that is not supported.
@@ -61,7 +61,7 @@ fn initialize_default(t: State, i: usize, locality: u32) -> NewHandle
     let u = state::with_context(t, i, c);
     let state = state::with_initialized(u);
     NewHandle {
-        answer: Outcome::Done,
+        answer: Ok(()),
         handle,
         state,
     }
@@ -75,7 +75,7 @@ fn initialize_simulation(t: State, i: usize, locality: u32, candidates: &[u8]) -
     let chosen = candidates::generate_new_handle(t, candidates);
     let answer = chosen.answer;
     let handle = chosen.handle;
-    let Outcome::Done = answer else {
+    let Ok(()) = answer else {
         return NewHandle {
             answer,
             handle,
@@ -103,7 +103,7 @@ pub fn initialize_context(t: State, flags: u32, locality: u32, candidates: &[u8]
     if both_or_neither(flags) {
         return state::refused(t, DpeErrorCode::InvalidArgument);
     }
-    let Found::At(i) = state::get_next_inactive_context_pos(t) else {
+    let Ok(i) = state::get_next_inactive_context_pos(t) else {
         return state::refused(t, DpeErrorCode::MaxTcis);
     };
     if flags::flag_is_default(flags) {

@@ -1,4 +1,5 @@
 -- Laws of the lookup: what a slot that was found satisfies, what each refusal says, and that only the slots below n count. Assumes nothing.
+use Rattle.std.specs.Prelude.{Ok, Err}
 use mathlib.Core.Path.{◌≡◌, refl, sym, ap, ap₂, ◌∙◌}
 use mathlib.Core.Logic.{◌⊎◌, inl, inr, ◌↔◌}
 use mathlib.Core.Bool.{Bool, true, false, cond, ◌||◌}
@@ -14,7 +15,6 @@ use Rattle.children.specs.Below.{some, lowest}
 use Rattle.children.proofs.Cases.{two, clash, order, and-true, and_both, and_left, eqb-true, true-eqb}
 use Rattle.children.proofs.Below.{low_bare, low_passes, low_same, of_some, some_of, none-at, some_same}
 use Rattle.context.specs.declared.Context.{Context}
-use Rattle.table.specs.declared.state.Found.TheVariants.{At, Refused}
 use Rattle.context.specs.Context.{is_active}
 use Rattle.context.proofs.Bytes.{same_iff}
 use Rattle.lookup.specs.Lookup.{active_of, active_in, is_target, lookup_in}
@@ -31,24 +31,24 @@ pub or_miss : (a : Bool) {b : Bool} → b ≡ false → (a || b) ≡ a
 or_miss true e = refl
 or_miss false e = e
 
-never : {A : Type 0} {i : ℕ} {e : DpeErrorCode} → At i ≡ Refused e → A
+never : {A : Type 0} {i : ℕ} {e : DpeErrorCode} → Ok i ≡ Err e → A
 never p = absurd (let z : ◌≡◌ {A = ℕ} 0 1 = cc in omega arith)
 
-same_at : {i j : ℕ} → At i ≡ At j → i ≡ j
+same_at : {i j : ℕ} → Ok i ≡ Ok j → i ≡ j
 same_at e = cc
 
 module _ (n : ℕ) (s : ℕ → Context) (h : List ℕ) (l : ℕ) where
   -- ---- the ways out of the search
 
-  pub found_at : (i : ℕ) → lowest (is_target s h l) n ≡ i → i < n → At i ≡ lookup_in n s h l
+  pub found_at : (i : ℕ) → lowest (is_target s h l) n ≡ i → i < n → Ok i ≡ lookup_in n s h l
   unfolding lookup_in
   found_at i e b = rw (e, lt-ltb i n b)
 
-  pub found-other : n ≤ lowest (is_target s h l) n → some (active_in s l) n ≡ true → Refused InvalidHandle ≡ lookup_in n s h l
+  pub found-other : n ≤ lowest (is_target s h l) n → some (active_in s l) n ≡ true → Err InvalidHandle ≡ lookup_in n s h l
   unfolding lookup_in
   found-other b e = rw (le-ltb _ _ b, e)
 
-  pub found_nowhere : n ≤ lowest (is_target s h l) n → some (active_in s l) n ≡ false → Refused InvalidLocality ≡ lookup_in n s h l
+  pub found_nowhere : n ≤ lowest (is_target s h l) n → some (active_in s l) n ≡ false → Err InvalidLocality ≡ lookup_in n s h l
   unfolding lookup_in
   found_nowhere b e = rw (le-ltb _ _ b, e)
 
@@ -89,9 +89,9 @@ module _ (n : ℕ) (s : ℕ → Context) (h : List ℕ) (l : ℕ) where
 
   -- the three answers: a slot below n is the one found, or the search came to its end
   ways : {A : Type 0}
-      → ((i : ℕ) → i < n → lowest (is_target s h l) n ≡ i → lookup_in n s h l ≡ At i → A)
-      → (n ≤ lowest (is_target s h l) n → some (active_in s l) n ≡ true → lookup_in n s h l ≡ Refused InvalidHandle → A)
-      → (n ≤ lowest (is_target s h l) n → some (active_in s l) n ≡ false → lookup_in n s h l ≡ Refused InvalidLocality → A)
+      → ((i : ℕ) → i < n → lowest (is_target s h l) n ≡ i → lookup_in n s h l ≡ Ok i → A)
+      → (n ≤ lowest (is_target s h l) n → some (active_in s l) n ≡ true → lookup_in n s h l ≡ Err InvalidHandle → A)
+      → (n ≤ lowest (is_target s h l) n → some (active_in s l) n ≡ false → lookup_in n s h l ≡ Err InvalidLocality → A)
       → A
   ways f g k = elim (dec_lt (lowest (is_target s h l) n) n) [
     | yes b ↦ f _ b refl (sym (found_at _ refl b))
@@ -101,7 +101,7 @@ module _ (n : ℕ) (s : ℕ → Context) (h : List ℕ) (l : ℕ) where
   ]
 
   -- a slot is found exactly where it is the target
-  pub found_iff : (i : ℕ) → (lookup_in n s h l ≡ At i) ↔ Target n s h l i
+  pub found_iff : (i : ℕ) → (lookup_in n s h l ≡ Ok i) ↔ Target n s h l i
   found_iff i = (
     λ e. ways
         (λ j b q a. let z = same_at (sym a ∙ e) in at_low i (q ∙ z) (omega arith))
@@ -111,7 +111,7 @@ module _ (n : ℕ) (s : ℕ → Context) (h : List ℕ) (l : ℕ) where
   )
 
   -- some slot is found exactly where some slot is active, of the locality, with the handle
-  pub some_iff : (some (is_target s h l) n ≡ true) ↔ ((i : ℕ) × (lookup_in n s h l ≡ At i))
+  pub some_iff : (some (is_target s h l) n ≡ true) ↔ ((i : ℕ) × (lookup_in n s h l ≡ Ok i))
   some_iff = (
     λ e. let r = of_some (is_target s h l) n e in ways
         (λ j b q a. (j, a))
@@ -121,7 +121,7 @@ module _ (n : ℕ) (s : ℕ → Context) (h : List ℕ) (l : ℕ) where
   )
 
   -- InvalidHandle exactly where the locality has an active context and no slot is a target
-  pub handle_iff : (lookup_in n s h l ≡ Refused InvalidHandle) ↔ ((some (active_in s l) n ≡ true) × ((i : ℕ) → i < n → is_target s h l i ≡ false))
+  pub handle_iff : (lookup_in n s h l ≡ Err InvalidHandle) ↔ ((some (active_in s l) n ≡ true) × ((i : ℕ) → i < n → is_target s h l i ≡ false))
   handle_iff = (
     λ e. ways
         (λ j b q a. never (sym a ∙ e))
@@ -131,7 +131,7 @@ module _ (n : ℕ) (s : ℕ → Context) (h : List ℕ) (l : ℕ) where
   )
 
   -- InvalidLocality exactly where the locality has no active context
-  pub locality_iff : (lookup_in n s h l ≡ Refused InvalidLocality) ↔ (some (active_in s l) n ≡ false)
+  pub locality_iff : (lookup_in n s h l ≡ Err InvalidLocality) ↔ (some (active_in s l) n ≡ false)
   locality_iff = (
     λ e. ways
         (λ j b q a. never (sym a ∙ e))
@@ -141,13 +141,13 @@ module _ (n : ℕ) (s : ℕ → Context) (h : List ℕ) (l : ℕ) where
   )
 
   -- there is no other refusal
-  pub refused_by_lem : (e : DpeErrorCode) → lookup_in n s h l ≡ Refused e → (e ≡ InvalidHandle) ⊎ (e ≡ InvalidLocality)
+  pub refused_by_lem : (e : DpeErrorCode) → lookup_in n s h l ≡ Err e → (e ≡ InvalidHandle) ⊎ (e ≡ InvalidLocality)
   refused_by_lem e r = ways (λ j b q a. never (sym a ∙ r)) (λ b q a. inl (cc)) (λ b q a. inr (cc))
 
 -- only the slots below n count
 pub lookup_same : (n : ℕ) (s s' : ℕ → Context) (h : List ℕ) (l : ℕ) → ((i : ℕ) → i < n → s i ≡ s' i) → lookup_in n s h l ≡ lookup_in n s' h l
 unfolding lookup_in
 lookup_same n s s' h l f =
-    ap₂ (λ (k : ℕ) (b : Bool). cond (ltb k n) (At k) (cond b (Refused InvalidHandle) (Refused InvalidLocality)))
+    ap₂ (λ (k : ℕ) (b : Bool). cond (ltb k n) (Ok k) (cond b (Err InvalidHandle) (Err InvalidLocality)))
     (low_same (is_target s h l) (is_target s' h l) n 0 (λ i a b. ap (λ (c : Context). is_target (λ _. c) h l 0) (f i (omega arith))))
     (some_same (active_in s l) (active_in s' l) n (λ i b. ap (λ (c : Context). active_of c l) (f i b)))

@@ -1,12 +1,10 @@
 -- The lookup of an active context. A table is a function s from a slot to its context, and n is the number of slots.
 -- Assumes nothing: these are definitions.
-use Rattle.std.specs.Prelude.{Bool, cond, ◌&&◌, List, ℕ, eqb, ltb}
+use Rattle.std.specs.Prelude.{Bool, cond, ◌&&◌, List, ℕ, eqb, ltb, Result, Ok, Err}
 use Rattle.error.specs.declared.DpeErrorCode.{DpeErrorCode}
 use Rattle.error.specs.declared.DpeErrorCode.TheVariants.{InvalidHandle, InvalidLocality}
 use Rattle.children.specs.Below.{some, lowest}
 use Rattle.context.specs.declared.Context.{Context}
-use Rattle.table.specs.declared.state.Found.{Found}
-use Rattle.table.specs.declared.state.Found.TheVariants.{At, Refused}
 use Rattle.handle.specs.Handle.{same_bytes}
 use Rattle.context.specs.Context.{is_active}
 
@@ -23,14 +21,14 @@ abbrev pub is_target : (ℕ → Context) → List ℕ → ℕ → ℕ → Bool
 is_target s h l i = active_in s l i && same_bytes (s i).handle h
 
 -- none was found: InvalidLocality if no active context has the locality, else InvalidHandle
-abbrev pub none_in : ℕ → (ℕ → Context) → ℕ → Found
-none_in n s l = cond (some (active_in s l) n) (Refused InvalidHandle) (Refused InvalidLocality)
+abbrev pub none_in : ℕ → (ℕ → Context) → ℕ → Result ℕ DpeErrorCode
+none_in n s l = cond (some (active_in s l) n) (Err InvalidHandle) (Err InvalidLocality)
 
 -- the lowest active slot of the locality l with the handle h
-unfoldable pub lookup_in : ℕ → (ℕ → Context) → List ℕ → ℕ → Found
-lookup_in n s h l = cond (ltb (lowest (is_target s h l) n) n) (At (lowest (is_target s h l) n)) (none_in n s l)
+unfoldable pub lookup_in : ℕ → (ℕ → Context) → List ℕ → ℕ → Result ℕ DpeErrorCode
+lookup_in n s h l = cond (ltb (lowest (is_target s h l) n) n) (Ok (lowest (is_target s h l) n)) (none_in n s l)
 
 -- the refusal of an answer; a slot that was found has none, and is not asked
-abbrev pub why_of : Found → DpeErrorCode
-why_of (At i) = InvalidHandle
-why_of (Refused e) = e
+abbrev pub why_of : Result ℕ DpeErrorCode → DpeErrorCode
+why_of (Ok i) = InvalidHandle
+why_of (Err e) = e

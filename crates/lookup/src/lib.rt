@@ -9,7 +9,7 @@ ghost use Rattle.lookup.specs.Lookup.{active_of, lookup_in, why_of};
 use children::MAX_HANDLES;
 use context::{Context, ContextState};
 use error::DpeErrorCode;
-use table::state::{Found, State};
+use table::state::State;
 
 // Whether a context is active, and of the locality.
 pub fn active_in(c: Context, locality: u32) -> bool
@@ -20,7 +20,7 @@ pub fn active_in(c: Context, locality: u32) -> bool
 }
 
 // The lowest active slot of the locality with the handle.
-pub fn get_active_context_pos(t: State, handle: [u8; handle::SIZE], locality: u32) -> Found
+pub fn get_active_context_pos(t: State, handle: [u8; handle::SIZE], locality: u32) -> Result<usize, DpeErrorCode>
     ensures { result ≡ lookup_in slot_count (slot_of t.contexts) handle locality }
 {
     let mut seen_locality = false;
@@ -30,22 +30,22 @@ pub fn get_active_context_pos(t: State, handle: [u8; handle::SIZE], locality: u3
             seen_locality = true;
             let h = c.handle;
             if handle::equals(h, handle) {
-                return Found::At(i);
+                return Ok(i);
             }
         }
     }
     if seen_locality {
-        return Found::Refused(DpeErrorCode::InvalidHandle);
+        return Err(DpeErrorCode::InvalidHandle);
     }
-    Found::Refused(DpeErrorCode::InvalidLocality)
+    Err(DpeErrorCode::InvalidLocality)
 }
 
 // The refusal of an answer, for the `else` of a `let .. else`; a slot that was found has none, and is not asked.
-pub fn why(f: Found) -> DpeErrorCode
+pub fn why(f: Result<usize, DpeErrorCode>) -> DpeErrorCode
     ensures { result ≡ why_of f }
 {
     match f {
-        Found::At(_) => DpeErrorCode::InvalidHandle,
-        Found::Refused(e) => e,
+        Ok(_) => DpeErrorCode::InvalidHandle,
+        Err(e) => e,
     }
 }

@@ -8,7 +8,7 @@ ghost use Rattle.candidates.specs.Candidates.{chosen_in};
 use crate::slot;
 use candidates::{Chosen, MAX_NEW_HANDLE_ATTEMPTS};
 use children::MAX_HANDLES;
-use error::{AddedErrorCode, DpeErrorCode, InternalErrorCode, Outcome};
+use error::{AddedErrorCode, DpeErrorCode, InternalErrorCode};
 
 // The first usable candidate: not all zero, and the handle of no slot.
 pub fn generate_new_handle(image: &[u8], candidates: &[u8]) -> Chosen
@@ -30,7 +30,7 @@ pub fn generate_new_handle(image: &[u8], candidates: &[u8]) -> Chosen
             }
         }
         return Chosen {
-            answer: Outcome::Done,
+            answer: Ok(()),
             handle: h,
         };
     }

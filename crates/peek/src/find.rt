@@ -1,6 +1,5 @@
 // Slots looked for in a lent image, and counted. state.rs.
-ghost use Rattle.std.specs.Prelude.{◌≡◌, ◌<◌, length};
-ghost use Rattle.error.specs.declared.Outcome.TheVariants.{Done};
+ghost use Rattle.std.specs.Prelude.{◌≡◌, ◌<◌, length, Ok};
 ghost use Rattle.children.specs.Marks.{slot_count};
 ghost use Rattle.context.specs.Context.{slot_of};
 ghost use Rattle.table.specs.State.{count_in, free_in};
@@ -14,10 +13,9 @@ use error::DpeErrorCode;
 use image::state::CONTEXTS_AT;
 use image_context::SIZE;
 use image_kinds::STATE_AT;
-use table::state::Found;
 
 // The lowest active slot of the locality with the handle.
-pub fn get_active_context_pos(image: &[u8], handle: [u8; handle::SIZE], locality: u32) -> Found
+pub fn get_active_context_pos(image: &[u8], handle: [u8; handle::SIZE], locality: u32) -> Result<usize, DpeErrorCode>
     requires { length image.now ≡ state_size }
     ensures { result ≡ lookup_in slot_count (slot_of (decode_state image.now).contexts) handle locality }
 {
@@ -27,19 +25,19 @@ pub fn get_active_context_pos(image: &[u8], handle: [u8; handle::SIZE], locality
             seen_locality = true;
             let h = slot::handle_at(image, i);
             if handle::equals(h, handle) {
-                return Found::At(i);
+                return Ok(i);
             }
         }
     }
     if seen_locality {
-        return Found::Refused(DpeErrorCode::InvalidHandle);
+        return Err(DpeErrorCode::InvalidHandle);
     }
-    Found::Refused(DpeErrorCode::InvalidLocality)
+    Err(DpeErrorCode::InvalidLocality)
 }
 
 // How many contexts are in a state, given as its byte.
 pub fn count_contexts(image: &[u8], state: u8) -> usize
-    requires { (readable_of image.now ≡ Done) × (state < 3) }
+    requires { (readable_of image.now ≡ Ok tt) × (state < 3) }
     ensures { result ≡ count_in slot_count (slot_of (decode_state image.now).contexts) (state_of state) }
 {
     let mut found: usize = 0;
@@ -52,7 +50,7 @@ pub fn count_contexts(image: &[u8], state: u8) -> usize
 }
 
 // The lowest inactive slot.
-pub fn get_next_inactive_context_pos(image: &[u8]) -> Found
+pub fn get_next_inactive_context_pos(image: &[u8]) -> Result<usize, DpeErrorCode>
     requires { length image.now ≡ state_size }
     ensures { result ≡ free_in slot_count (slot_of (decode_state image.now).contexts) }
 {
@@ -60,8 +58,8 @@ pub fn get_next_inactive_context_pos(image: &[u8]) -> Found
         let f = view::fields_at(image, i);
         let s = f.state;
         if context::is_inactive(s) {
-            return Found::At(i);
+            return Ok(i);
         }
     }
-    Found::Refused(DpeErrorCode::MaxTcis)
+    Err(DpeErrorCode::MaxTcis)
 }

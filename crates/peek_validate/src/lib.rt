@@ -13,11 +13,10 @@ ghost use Rattle.validation_slots.specs.Summary.{slot_in};
 ghost use Rattle.peek_validate.specs.Validate.{validate_at};
 
 use children::MAX_HANDLES;
-use error::{Outcome, ValidationError};
+use error::{DpeErrorCode, ValidationError};
 use image::state;
 use peek::slot;
 use table::state::{MAGIC, VERSION};
-use verdict::Verdict;
 
 // Each slot of the image, upward.
 fn slots_test(
@@ -25,7 +24,7 @@ fn slots_test(
     children: &[u64; MAX_HANDLES],
     parents: &[u8; MAX_HANDLES],
     live: u64,
-) -> Verdict
+) -> Result<(), ValidationError>
     requires { length image.now ≡ state_size }
     ensures { result ≡ first_below (slot_in (header_of (decode_state image.now)) (slot_of (decode_state image.now).contexts) children.now parents.now live) slot_count }
 {
@@ -34,42 +33,42 @@ fn slots_test(
     for i in 0..MAX_HANDLES {
         let c = slot::context_at(image, i);
         let v = validation_slots::context_test(c, support, init, children, parents, live, i);
-        let Verdict::Valid = v else {
+        let Ok(()) = v else {
             return v;
         };
     }
-    Verdict::Valid
+    Ok(())
 }
 
 // The verdict on the table of an image: yes, or the first test that fails.
-fn validate_dpe(image: &[u8]) -> Verdict
+fn validate_dpe(image: &[u8]) -> Result<(), ValidationError>
     requires { length image.now ≡ state_size }
     ensures { result ≡ verdict_of (decode_state image.now) }
 {
     if wire::read_u32(image, state::MARKER_AT) != MAGIC {
-        return Verdict::Fault(ValidationError::InvalidMarker);
+        return Err(ValidationError::InvalidMarker);
     }
     if wire::read_u32(image, state::VERSION_AT) != VERSION {
-        return Verdict::Fault(ValidationError::VersionMismatch);
+        return Err(ValidationError::VersionMismatch);
     }
     let l = summary::links_of(image);
     let children = l.children;
     let parents = l.parents;
     let v = slots_test(image, &children, &parents, l.live);
-    let Verdict::Valid = v else {
+    let Ok(()) = v else {
         return v;
     };
     let p = summary::places_of(image);
     let places = p.localities;
     let w = validation_localities::localities_test(&places, p.defaults, p.others);
-    let Verdict::Valid = w else {
+    let Ok(()) = w else {
         return w;
     };
     validation_trees::trees_test(&children, &parents, l.live, l.simulations)
 }
 
 // What validating an image answers: why it does not read, or the verdict on its table.
-pub fn validate_image(image: &[u8]) -> Outcome
+pub fn validate_image(image: &[u8]) -> Result<(), DpeErrorCode>
     ensures { result ≡ validate_at image.now }
 {
     if !state::is_readable(image) {

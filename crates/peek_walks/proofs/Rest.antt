@@ -1,4 +1,5 @@
 -- The rest of a walk down: the answers for the children from one on, and what they are worth beside the marks found before. Assumes nothing.
+use Rattle.std.specs.Prelude.{Err}
 use mathlib.Core.Bool.{Bool, true, false, cond}
 use mathlib.Core.Logic.{inl, inr}
 use mathlib.Core.Path.{◌≡◌, refl, sym, ap, ◌∙◌}
@@ -7,7 +8,6 @@ use native.Mathlib.Numerals.{add-one}
 use native.Mathlib.Omega.{arith}
 use lib.Bits.{or_zero_r}
 use Rattle.error.specs.declared.DpeErrorCode.{DpeErrorCode}
-use Rattle.children.specs.declared.Answer.TheVariants.{Refused}
 use Rattle.children.specs.Below.{lowest_from}
 use Rattle.children.specs.Marks.{marked, with, joined, next_below}
 use Rattle.children.proofs.Below.{low_ge, low-le, low_bare}
@@ -104,7 +104,7 @@ module _ (rec : ℕ → Answer) (m : ℕ) where
   rest_last n k r f h b q l = rest_on n k r f h b q ∙ ap (both (both (ok f) (rec k))) (rest_end n r l) ∙ both_none_r (both (ok f) (rec k))
 
 -- a child that is refused ends the walk
-pub refused_on : (e r : DpeErrorCode) (f : ℕ) (a b : Answer) → told_of e a ≡ Refused r → told_of e (both (both (ok f) a) b) ≡ Refused r
+pub refused_on : (e r : DpeErrorCode) (f : ℕ) (a b : Answer) → told_of e a ≡ Err r → told_of e (both (both (ok f) a) b) ≡ Err r
 unfolding told_of
 refused_on e r f loops b q = q
 refused_on e r f bad b q = q

@@ -9,13 +9,13 @@ ghost use Rattle.links.specs.Summary.{live_at, kids_at};
 ghost use Rattle.forest.specs.Told.{told_of};
 ghost use Rattle.walks.specs.Walks.{descendants_in};
 
-use children::{Answer, MAX_HANDLES};
+use children::MAX_HANDLES;
 use error::{AddedErrorCode, DpeErrorCode, InternalErrorCode};
 use peek::slot;
 
 // The stored marks of a slot, joined with the descendants of each child. `path` marks the slots on the way down to it; `depth` is how many more may come.
 // The last child of a slot takes its place, so that only a child with another after it is a call.
-pub fn descend(image: &[u8], path: u64, slot: usize, depth: usize) -> Answer
+pub fn descend(image: &[u8], path: u64, slot: usize, depth: usize) -> Result<u64, DpeErrorCode>
     requires { (length image.now ≡ state_size) × (slot < slot_count) }
     ensures { result ≡ told_of InvalidHandle (walk_down slot_count (live_at (slot_of (decode_state image.now).contexts)) (kids_at (slot_of (decode_state image.now).contexts)) depth path slot) }
 {
@@ -25,7 +25,7 @@ pub fn descend(image: &[u8], path: u64, slot: usize, depth: usize) -> Answer
     let mut left = depth;
     while left != 0 {
         if !slot::is_live(image, at) {
-            return Answer::Refused(DpeErrorCode::InvalidHandle);
+            return Err(DpeErrorCode::InvalidHandle);
         }
         down = children::with(down, at);
         left -= 1;
@@ -33,15 +33,15 @@ pub fn descend(image: &[u8], path: u64, slot: usize, depth: usize) -> Answer
         found = children::add_children(found, kids);
         let mut k = children::next(kids, 0);
         if k >= MAX_HANDLES {
-            return Answer::Marks(found);
+            return Ok(found);
         }
         let mut after = children::next(kids, k + 1);
         while after < MAX_HANDLES {
             if children::has_child(down, k) {
-                return Answer::Refused(DpeErrorCode::Added(AddedErrorCode::WalkLoops));
+                return Err(DpeErrorCode::Added(AddedErrorCode::WalkLoops));
             }
             let w = descend(image, down, k, left);
-            let Answer::Marks(m) = w else {
+            let Ok(m) = w else {
                 return w;
             };
             found = children::add_children(found, m);
@@ -49,20 +49,20 @@ pub fn descend(image: &[u8], path: u64, slot: usize, depth: usize) -> Answer
             after = children::next(kids, k + 1);
         }
         if children::has_child(down, k) {
-            return Answer::Refused(DpeErrorCode::Added(AddedErrorCode::WalkLoops));
+            return Err(DpeErrorCode::Added(AddedErrorCode::WalkLoops));
         }
         at = k;
     }
-    Answer::Refused(DpeErrorCode::Added(AddedErrorCode::WalkLoops))
+    Err(DpeErrorCode::Added(AddedErrorCode::WalkLoops))
 }
 
 // The descendants of a slot, as marks.
-pub fn get_descendants(image: &[u8], slot: usize) -> Answer
+pub fn get_descendants(image: &[u8], slot: usize) -> Result<u64, DpeErrorCode>
     requires { length image.now ≡ state_size }
     ensures { result ≡ descendants_in slot_count (slot_of (decode_state image.now).contexts) slot }
 {
     if slot >= MAX_HANDLES {
-        return Answer::Refused(DpeErrorCode::InternalError(InternalErrorCode::ContextIndexOob));
+        return Err(DpeErrorCode::InternalError(InternalErrorCode::ContextIndexOob));
     }
     descend(image, children::empty(), slot, MAX_HANDLES)
 }

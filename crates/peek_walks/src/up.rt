@@ -6,13 +6,13 @@ ghost use Rattle.image.specs.State.{state_size, decode_state};
 ghost use Rattle.links.specs.Summary.{retired_at, parent_at, kids_at};
 ghost use Rattle.walks_run.specs.Run.{run_from};
 
-use children::{Answer, MAX_HANDLES};
+use children::MAX_HANDLES;
 use context::ROOT_INDEX;
 use error::{AddedErrorCode, DpeErrorCode, InternalErrorCode};
 use peek::slot;
 
 // The run from the slot `start` upward, as marks.
-pub fn run_above(image: &[u8], start: u8) -> Answer
+pub fn run_above(image: &[u8], start: u8) -> Result<u64, DpeErrorCode>
     requires { length image.now ≡ state_size }
     ensures { result ≡ run_from slot_count (retired_at (slot_of (decode_state image.now).contexts)) (parent_at (slot_of (decode_state image.now).contexts)) (kids_at (slot_of (decode_state image.now).contexts)) start }
 {
@@ -22,20 +22,20 @@ pub fn run_above(image: &[u8], start: u8) -> Answer
         let i = links::index(p);
         if i >= MAX_HANDLES {
             if p == ROOT_INDEX {
-                return Answer::Marks(taken);
+                return Ok(taken);
             }
-            return Answer::Refused(DpeErrorCode::InternalError(
+            return Err(DpeErrorCode::InternalError(
                 InternalErrorCode::DestroyParentIndexOob,
             ));
         }
         if !slot::is_retired(image, i) {
-            return Answer::Marks(taken);
+            return Ok(taken);
         }
         if children::count(slot::children_at(image, i)) != 1 {
-            return Answer::Marks(taken);
+            return Ok(taken);
         }
         taken = children::with(taken, i);
         p = slot::parent_at(image, i);
     }
-    Answer::Refused(DpeErrorCode::Added(AddedErrorCode::WalkLoops))
+    Err(DpeErrorCode::Added(AddedErrorCode::WalkLoops))
 }

@@ -1,4 +1,5 @@
 -- What a lent image holds after a call that writes it, way by way. Assumes nothing.
+use Rattle.std.specs.Prelude.{Ok, Err}
 use mathlib.Core.List.{List}
 use mathlib.Core.Path.{◌≡◌, sym, ap, ◌∙◌}
 use Prim.Native.Nat.{ℕ}
@@ -7,7 +8,6 @@ use lib.ListN.{get_or}
 use mir.Syntax.{w8}
 use mir.Val.{Fits}
 use Rattle.error.specs.declared.DpeErrorCode.{DpeErrorCode}
-use Rattle.error.specs.declared.Outcome.TheVariants.{Done, Refused}
 use Rattle.wire.specs.Le.{Bytes}
 use Rattle.table.specs.declared.state.State.{State}
 use Rattle.table.specs.declared.state.NewHandle.{NewHandle}
@@ -29,8 +29,8 @@ pub holds : (l l' : List ℕ) (t : State) → l ≡ l' → ImageOf l' t → Hold
 holds l l' t e o = rw e (o.reads, o.table)
 
 module _ (n : NewHandle) (l : List ℕ) where
-  pub after_refused : (e : DpeErrorCode) → n.answer ≡ Refused e → l ≡ image_after n l
+  pub after_refused : (e : DpeErrorCode) → n.answer ≡ Err e → l ≡ image_after n l
   after_refused e q = rw q
 
-  pub after_done : (l' : List ℕ) → n.answer ≡ Done → l' ≡ encode_state n.state → l' ≡ image_after n l
+  pub after_done : (l' : List ℕ) → n.answer ≡ Ok tt → l' ≡ encode_state n.state → l' ≡ image_after n l
   after_done l' q e = rw q e

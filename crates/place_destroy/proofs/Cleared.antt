@@ -1,4 +1,5 @@
 -- What a lent image holds after a destroy, way by way, and a slot where a set is cleared. Assumes nothing.
+use Rattle.std.specs.Prelude.{Ok, Err}
 use mathlib.Core.Bool.{true, false}
 use mathlib.Core.List.{List}
 use mathlib.Core.Path.{◌≡◌, ap, ◌∙◌}
@@ -6,7 +7,6 @@ use Prim.Native.Nat.{ℕ}
 use lib.ListN.{length}
 use lib.Seq.{set-get_or}
 use Rattle.error.specs.declared.DpeErrorCode.{DpeErrorCode}
-use Rattle.error.specs.declared.Outcome.TheVariants.{Done, Refused}
 use Rattle.children.specs.Marks.{slot_count, marked, without}
 use Rattle.children.proofs.Below.{length-list_of}
 use Rattle.context.specs.declared.Context.{Context}
@@ -19,10 +19,10 @@ use Rattle.image.specs.State.{slot_in, decode_state, encode_state}
 use Rattle.place.specs.Place.{destroyed_after}
 
 module _ (d : Destroyed) (l : List ℕ) where
-  pub gone_refused : (e : DpeErrorCode) → d.answer ≡ Refused e → l ≡ destroyed_after d l
+  pub gone_refused : (e : DpeErrorCode) → d.answer ≡ Err e → l ≡ destroyed_after d l
   gone_refused e q = rw q
 
-  pub gone_done : (l' : List ℕ) → d.answer ≡ Done → l' ≡ encode_state d.state → l' ≡ destroyed_after d l
+  pub gone_done : (l' : List ℕ) → d.answer ≡ Ok tt → l' ≡ encode_state d.state → l' ≡ destroyed_after d l
   gone_done l' q e = rw q e
 
 -- ---- the slots of a table that was read

@@ -2,8 +2,7 @@
 // `destroy_context` has the name of the one by value, which says what it means.
 #![tactic(auto)]
 
-ghost use Rattle.std.specs.Prelude.{◌<◌, ◌≡◌, length};
-ghost use Rattle.error.specs.declared.Outcome.TheVariants.{Done};
+ghost use Rattle.std.specs.Prelude.{◌<◌, ◌≡◌, length, Ok};
 ghost use Rattle.children.specs.Marks.{slot_count};
 ghost use Rattle.context.specs.Context.{slot_of};
 ghost use Rattle.table.specs.State.{with_slot};
@@ -12,15 +11,14 @@ ghost use Rattle.clearing.specs.Clearing.{cleared_slot, cleared_by};
 ghost use Rattle.destroy_context.specs.Destroy.{doomed_in, destroy_of};
 ghost use Rattle.place.specs.Place.{Holds, destroyed_after};
 
-use children::{Answer, MAX_HANDLES};
-use error::Outcome;
+use error::DpeErrorCode;
+use children::MAX_HANDLES;
 use peek::{find, slot};
 use peek_walks::{down, up};
-use table::state::Found;
 
 // The slot is cleared where the set has it, and else loses the marks of the set; marks that stay the same are not written.
 fn clear_slot(image: &mut [u8], slot: usize, set: u64)
-    requires { (readable_of image.old ≡ Done) × (slot < slot_count) }
+    requires { (readable_of image.old ≡ Ok tt) × (slot < slot_count) }
     ensures { Holds image.new (with_slot (decode_state image.old) slot (cleared_slot set slot (slot_of (decode_state image.old).contexts slot))) }
 {
     if children::has_child(set, slot) {
@@ -37,7 +35,7 @@ fn clear_slot(image: &mut [u8], slot: usize, set: u64)
 
 // Every slot so.
 fn clear(image: &mut [u8], set: u64)
-    requires { readable_of image.old ≡ Done }
+    requires { readable_of image.old ≡ Ok tt }
     ensures { image.new ≡ encode_state (cleared_by (decode_state image.old) set) }
 {
     for i in 0..MAX_HANDLES {
@@ -46,36 +44,36 @@ fn clear(image: &mut [u8], set: u64)
 }
 
 // The slots that go with a slot, as marks: itself, all that is below it, and the run above it. The walk up comes first.
-fn doomed(image: &[u8], slot: usize) -> Answer
+fn doomed(image: &[u8], slot: usize) -> Result<u64, DpeErrorCode>
     requires { (length image.now ≡ state_size) × (slot < slot_count) }
     ensures { result ≡ doomed_in slot_count (slot_of (decode_state image.now).contexts) slot }
 {
     let above = up::run_above(image, slot::parent_at(image, slot));
-    let Answer::Marks(retired) = above else {
+    let Ok(retired) = above else {
         return above;
     };
     let below = down::descend(image, children::empty(), slot, MAX_HANDLES);
-    let Answer::Marks(under) = below else {
+    let Ok(under) = below else {
         return below;
     };
     let set = children::add_children(children::with(under, slot), retired);
-    Answer::Marks(set)
+    Ok(set)
 }
 
 // Destroys the active context of a locality that has a handle.
-pub fn destroy_context(image: &mut [u8], handle: [u8; handle::SIZE], locality: u32) -> Outcome
-    requires { readable_of image.old ≡ Done }
+pub fn destroy_context(image: &mut [u8], handle: [u8; handle::SIZE], locality: u32) -> Result<(), DpeErrorCode>
+    requires { readable_of image.old ≡ Ok tt }
     ensures value { result ≡ (destroy_of (decode_state image.old) handle locality).answer }
     ensures image_after { image.new ≡ destroyed_after (destroy_of (decode_state image.old) handle locality) image.old }
 {
     let found = find::get_active_context_pos(image, handle, locality);
-    let Found::At(slot) = found else {
-        return Outcome::Refused(lookup::why(found));
+    let Ok(slot) = found else {
+        return Err(lookup::why(found));
     };
     let gone = doomed(image, slot);
-    let Answer::Marks(set) = gone else {
-        return Outcome::Refused(walks::why(gone));
+    let Ok(set) = gone else {
+        return Err(walks::why(gone));
     };
     clear(image, set);
-    Outcome::Done
+    Ok(())
 }

@@ -2,8 +2,7 @@
 // `initialize_context` has the name of the one by value, which says what it means.
 #![tactic(auto)]
 
-ghost use Rattle.std.specs.Prelude.{◌<◌, ◌≡◌};
-ghost use Rattle.error.specs.declared.Outcome.TheVariants.{Done};
+ghost use Rattle.std.specs.Prelude.{◌<◌, ◌≡◌, Ok};
 ghost use Rattle.children.specs.Marks.{slot_count};
 ghost use Rattle.image.specs.State.{decode_state, encode_state, readable_of};
 ghost use Rattle.initialize_context.specs.Initialize.{default_in, simulation_of, initialized_of};
@@ -11,15 +10,14 @@ ghost use Rattle.place.specs.Place.{image_after, chosen_of};
 
 use candidates::Chosen;
 use context::ContextType;
-use error::{DpeErrorCode, Outcome};
+use error::DpeErrorCode;
 use image::state;
 use peek::{choose, find};
 use table::flags;
-use table::state::Found;
 
 // The default context in slot i.
 fn initialize_default(image: &mut [u8], i: usize, locality: u32) -> Chosen
-    requires { (readable_of image.old ≡ Done) × (i < slot_count) }
+    requires { (readable_of image.old ≡ Ok tt) × (i < slot_count) }
     ensures value { result ≡ chosen_of (default_in (decode_state image.old) locality i) }
     ensures image_after { image.new ≡ encode_state (default_in (decode_state image.old) locality i).state }
 {
@@ -28,20 +26,20 @@ fn initialize_default(image: &mut [u8], i: usize, locality: u32) -> Chosen
     place::put_context(image, i, c);
     place::put_initialized(image);
     Chosen {
-        answer: Outcome::Done,
+        answer: Ok(()),
         handle,
     }
 }
 
 // A simulation context in slot i, with a candidate for its handle.
 fn initialize_simulation(image: &mut [u8], i: usize, locality: u32, candidates: &[u8]) -> Chosen
-    requires { (readable_of image.old ≡ Done) × (i < slot_count) }
+    requires { (readable_of image.old ≡ Ok tt) × (i < slot_count) }
     ensures value { result ≡ chosen_of (simulation_of (decode_state image.old) locality i candidates.now) }
     ensures image_after { image.new ≡ image_after (simulation_of (decode_state image.old) locality i candidates.now) image.old }
 {
     let chosen = choose::generate_new_handle(image, candidates);
     let answer = chosen.answer;
-    let Outcome::Done = answer else {
+    let Ok(()) = answer else {
         return chosen;
     };
     let handle = chosen.handle;
@@ -52,7 +50,7 @@ fn initialize_simulation(image: &mut [u8], i: usize, locality: u32, candidates: 
 
 // The lowest inactive slot becomes the default context, or a simulation context.
 pub fn initialize_context(image: &mut [u8], flags: u32, locality: u32, candidates: &[u8]) -> Chosen
-    requires { readable_of image.old ≡ Done }
+    requires { readable_of image.old ≡ Ok tt }
     ensures value { result ≡ chosen_of (initialized_of (decode_state image.old) flags locality candidates.now) }
     ensures image_after { image.new ≡ image_after (initialized_of (decode_state image.old) flags locality candidates.now) image.old }
 {
@@ -64,7 +62,7 @@ pub fn initialize_context(image: &mut [u8], flags: u32, locality: u32, candidate
     if initialize_context::both_or_neither(flags) {
         return candidates::untaken(DpeErrorCode::InvalidArgument);
     }
-    let Found::At(i) = find::get_next_inactive_context_pos(image) else {
+    let Ok(i) = find::get_next_inactive_context_pos(image) else {
         return candidates::untaken(DpeErrorCode::MaxTcis);
     };
     if flags::flag_is_default(flags) {

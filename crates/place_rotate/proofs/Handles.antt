@@ -1,14 +1,13 @@
 -- What rotate answers beside the table, and the table where it succeeds. Assumes nothing.
+use Rattle.error.specs.declared.DpeErrorCode.{DpeErrorCode}
+use Rattle.std.specs.Prelude.{Result, Ok, Err}
 use mathlib.Core.Bool.{Bool, true, false, cond}
 use mathlib.Core.List.{List}
 use mathlib.Core.Path.{◌≡◌, refl, sym, ap, ◌∙◌}
 use Prim.Native.Nat.{ℕ}
 use Rattle.error.specs.declared.DpeErrorCode.TheVariants.{InvalidArgument}
-use Rattle.error.specs.declared.Outcome.{Outcome}
-use Rattle.error.specs.declared.Outcome.TheVariants.{Done, Refused}
 use Rattle.children.specs.Marks.{slot_count, marked}
 use Rattle.table.specs.declared.state.State.{State}
-use Rattle.table.specs.declared.state.Found.TheVariants.{At}
 use Rattle.handle.specs.Handle.{default_handle}
 use Rattle.table.specs.Flags.{rotate_default_bit}
 use Rattle.context.specs.Context.{slot_of, with_handle}
@@ -21,43 +20,43 @@ use Rattle.rotate_context.proofs.Rotate as rotate
 use Rattle.place.specs.Place.{chosen_of}
 
 -- a choice that succeeded
-taken_is : (ch : Chosen) → ch.answer ≡ Done → ch ≡ taken_of ch.handle
-taken_is ch a = ap (λ (o : Outcome). record { answer = o; handle = ch.handle }) a
+taken_is : (ch : Chosen) → ch.answer ≡ Ok tt → ch ≡ taken_of ch.handle
+taken_is ch a = ap (λ (o : Result Unit DpeErrorCode). record { answer = o; handle = ch.handle }) a
 
 module _ (t : State) (l flags : ℕ) (b : List ℕ) (i : ℕ) where
-  by_answer : (ch : Chosen) → ch ≡ chosen_in slot_count (slot_of t.contexts) b → (o : Outcome) → ch.answer ≡ o → ch ≡ chosen_of (to_candidate t i b)
-  by_answer ch is Done a = taken_is ch a ∙ ap chosen_of (rotate.chosen t i b ch is a)
-  by_answer ch is (Refused e) a = ap chosen_of (rotate.not_chosen t i b ch is e a)
+  by_answer : (ch : Chosen) → ch ≡ chosen_in slot_count (slot_of t.contexts) b → (o : Result Unit DpeErrorCode) → ch.answer ≡ o → ch ≡ chosen_of (to_candidate t i b)
+  by_answer ch is (Ok tt) a = taken_is ch a ∙ ap chosen_of (rotate.chosen t i b ch is a)
+  by_answer ch is (Err e) a = ap chosen_of (rotate.not_chosen t i b ch is e a)
 
   pub new_candidate : marked flags rotate_default_bit ≡ false → (ch : Chosen) → ch ≡ chosen_in slot_count (slot_of t.contexts) b
-      → ch ≡ chosen_of (rotated_at t l flags b (At i))
+      → ch ≡ chosen_of (rotated_at t l flags b (Ok i))
   new_candidate d ch is = by_answer ch is ch.answer refl ∙ ap (λ (m : Bool). chosen_of (cond m (to_default t l i) (to_candidate t i b))) (sym d)
 
   pub new-occupied : marked flags rotate_default_bit ≡ true → occupied slot_count (slot_of t.contexts) l i ≡ true
-      → untaken_of InvalidArgument ≡ chosen_of (rotated_at t l flags b (At i))
+      → untaken_of InvalidArgument ≡ chosen_of (rotated_at t l flags b (Ok i))
   new-occupied d o = rw (d, o)
 
   pub new-default : marked flags rotate_default_bit ≡ true → occupied slot_count (slot_of t.contexts) l i ≡ false
-      → taken_of default_handle ≡ chosen_of (rotated_at t l flags b (At i))
+      → taken_of default_handle ≡ chosen_of (rotated_at t l flags b (Ok i))
   new-default d o = rw (d, o)
 
-  chosen_state : (h : List ℕ) (o : Outcome) → (to_chosen t i h o).answer ≡ Done
+  chosen_state : (h : List ℕ) (o : Result Unit DpeErrorCode) → (to_chosen t i h o).answer ≡ Ok tt
       → with_slot t i (with_handle (slot_of t.contexts i) (to_chosen t i h o).handle) ≡ (to_chosen t i h o).state
-  chosen_state h Done a = refl
-  chosen_state h (Refused e) a = never_done (sym a)
+  chosen_state h (Ok tt) a = refl
+  chosen_state h (Err e) a = never_done (sym a)
 
-  default_state : (o : Bool) → (cond o (refused_of t InvalidArgument) (rotated_to t i default_handle)).answer ≡ Done
+  default_state : (o : Bool) → (cond o (refused_of t InvalidArgument) (rotated_to t i default_handle)).answer ≡ Ok tt
       → with_slot t i (with_handle (slot_of t.contexts i) (cond o (refused_of t InvalidArgument) (rotated_to t i default_handle)).handle)
       ≡ (cond o (refused_of t InvalidArgument) (rotated_to t i default_handle)).state
   default_state true a = never_done (sym a)
   default_state false a = refl
 
-  either_state : (m : Bool) → (cond m (to_default t l i) (to_candidate t i b)).answer ≡ Done
+  either_state : (m : Bool) → (cond m (to_default t l i) (to_candidate t i b)).answer ≡ Ok tt
       → with_slot t i (with_handle (slot_of t.contexts i) (cond m (to_default t l i) (to_candidate t i b)).handle) ≡ (cond m (to_default t l i) (to_candidate t i b)).state
   either_state true a = default_state (occupied slot_count (slot_of t.contexts) l i) a
   either_state false a = chosen_state (chosen_in slot_count (slot_of t.contexts) b).handle (chosen_in slot_count (slot_of t.contexts) b).answer a
 
   -- where rotate succeeds, the handle of slot i is the one that it answers, and nothing else changes
-  pub rotated_state : (rotated_at t l flags b (At i)).answer ≡ Done
-      → with_slot t i (with_handle (slot_of t.contexts i) (rotated_at t l flags b (At i)).handle) ≡ (rotated_at t l flags b (At i)).state
+  pub rotated_state : (rotated_at t l flags b (Ok i)).answer ≡ Ok tt
+      → with_slot t i (with_handle (slot_of t.contexts i) (rotated_at t l flags b (Ok i)).handle) ≡ (rotated_at t l flags b (Ok i)).state
   rotated_state a = either_state (marked flags rotate_default_bit) a

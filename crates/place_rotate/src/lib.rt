@@ -2,12 +2,10 @@
 // `rotate_context` has the name of the one by value, which says what it means.
 #![tactic(auto)]
 
-ghost use Rattle.std.specs.Prelude.{◌<◌, not, ◌&&◌, ◌||◌, ◌≡◌, length};
-ghost use Rattle.error.specs.declared.Outcome.TheVariants.{Done};
+ghost use Rattle.std.specs.Prelude.{◌<◌, not, ◌&&◌, ◌||◌, ◌≡◌, length, Ok};
 ghost use Rattle.children.specs.Marks.{slot_count};
 ghost use Rattle.handle.specs.Handle.{is_default};
 ghost use Rattle.context.specs.Context.{slot_of};
-ghost use Rattle.table.specs.declared.state.Found.TheVariants.{At};
 ghost use Rattle.image.specs.State.{state_size, decode_state, readable_of};
 ghost use Rattle.lookup.specs.Lookup.{active_in};
 ghost use Rattle.rotate_context.specs.Rotate.{occupied, rotated_at, rotated_of};
@@ -15,10 +13,9 @@ ghost use Rattle.place.specs.Place.{image_after, chosen_of};
 
 use candidates::Chosen;
 use children::MAX_HANDLES;
-use error::{DpeErrorCode, Outcome};
+use error::DpeErrorCode;
 use image::state;
 use peek::{choose, find, slot};
-use table::state::Found;
 use table::{flags, support};
 
 // Whether a slot keeps the locality from a new default: it is active there, and a default, or not the target.
@@ -56,7 +53,7 @@ fn new_handle(image: &[u8], i: usize, locality: u32, flags: u32, candidates: &[u
         return candidates::untaken(DpeErrorCode::InvalidArgument);
     }
     Chosen {
-        answer: Outcome::Done,
+        answer: Ok(()),
         handle: handle::default(),
     }
 }
@@ -69,7 +66,7 @@ pub fn rotate_context(
     flags: u32,
     candidates: &[u8],
 ) -> Chosen
-    requires { readable_of image.old ≡ Done }
+    requires { readable_of image.old ≡ Ok tt }
     ensures value { result ≡ chosen_of (rotated_of (decode_state image.old) handle locality flags candidates.now) }
     ensures image_after { image.new ≡ image_after (rotated_of (decode_state image.old) handle locality flags candidates.now) image.old }
 {
@@ -78,12 +75,12 @@ pub fn rotate_context(
         return candidates::untaken(DpeErrorCode::InvalidCommand);
     }
     let found = find::get_active_context_pos(image, handle, locality);
-    let Found::At(i) = found else {
+    let Ok(i) = found else {
         return candidates::untaken(lookup::why(found));
     };
     let chosen = new_handle(image, i, locality, flags, candidates);
     let answer = chosen.answer;
-    let Outcome::Done = answer else {
+    let Ok(()) = answer else {
         return chosen;
     };
     let h = chosen.handle;

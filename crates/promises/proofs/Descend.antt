@@ -1,11 +1,11 @@
 -- The walks from a yes: descendants are exactly the slots below. Assumes nothing.
+use Rattle.std.specs.Prelude.{Ok}
 use mathlib.Core.Path.{◌≡◌, ap}
 use mathlib.Core.Logic.{◌↔◌}
 use mathlib.Core.Bool.{true}
 use Prim.Native.Nat.{ℕ, ◌≤◌, ◌<◌}
 use borrow.Author.Tests.{lt-ltb}
 use Rattle.error.specs.declared.DpeErrorCode.TheVariants.{InvalidHandle}
-use Rattle.children.specs.declared.Answer.TheVariants.{Marks}
 use Rattle.children.specs.Marks.{slot_count, mark_count, marked}
 use Rattle.context.specs.declared.Context.{Context}
 use Rattle.table.specs.declared.state.State.{State}
@@ -24,13 +24,13 @@ use Rattle.promises.proofs.Rule.{links, roots, few}
 use Rattle.promises.proofs.Steps.{below_iff}
 
 -- a walk down that ends well is answered with its marks
-pub told-down : (n : ℕ) (s : ℕ → Context) (i w : ℕ) → i < n → walk_down n (live_at s) (kids_at s) n 0 i ≡ ok w → descendants_in n s i ≡ Marks w
+pub told-down : (n : ℕ) (s : ℕ → Context) (i w : ℕ) → i < n → walk_down n (live_at s) (kids_at s) n 0 i ≡ ok w → descendants_in n s i ≡ Ok w
 unfolding descendants_in told_of
 told-down n s i w lt e = rw (lt-ltb i n lt) (ap (told_of InvalidHandle) e)
 
 -- for any number of slots up to 64
 pub descendants : (n : ℕ) (h : Header) (s : ℕ → Context) → n ≤ mark_count → Words n s → ForestRule n h s → (i : ℕ) → Live n s i
-    → (w : ℕ) × (descendants_in n s i ≡ Marks w) × ((x : ℕ) → (marked w x ≡ true) ↔ BelowIn n s x i)
+    → (w : ℕ) × (descendants_in n s i ≡ Ok w) × ((x : ℕ) → (marked w x ≡ true) ↔ BelowIn n s x i)
 descendants n h s small W F i v =
     let L = links n h s small F in
     let d = descends n (table_of n s) L (live_at s) (retired_at s) (parent_at s) (kids_at s) (reads_of n s W) (roots n h s small F) i ((live_is n s i).1 v) in (
@@ -41,5 +41,5 @@ descendants n h s small W F i v =
 
 -- for a table
 pub descendants_below : (t : State) → Words slot_count (slot_of t.contexts) → Forest t → (i : ℕ) → Live slot_count (slot_of t.contexts) i
-    → (w : ℕ) × (descendants_in slot_count (slot_of t.contexts) i ≡ Marks w) × ((x : ℕ) → (marked w x ≡ true) ↔ BelowIn slot_count (slot_of t.contexts) x i)
+    → (w : ℕ) × (descendants_in slot_count (slot_of t.contexts) i ≡ Ok w) × ((x : ℕ) → (marked w x ≡ true) ↔ BelowIn slot_count (slot_of t.contexts) x i)
 descendants_below t W F i v = descendants slot_count (header_of t) (slot_of t.contexts) few W F i v

@@ -1,5 +1,6 @@
 -- A destroy from a yes that finds its context clears exactly what goes with it, and leaves a yes. Words says that each stored word of children is
 -- below 2 ^ 64, as a u64 is: every table that code holds meets it. Assumes nothing else.
+use Rattle.std.specs.Prelude.{Result, Ok, Err}
 use mathlib.Core.Path.{◌≡◌, refl, ap, ◌∙◌}
 use mathlib.Core.List.{List}
 use mathlib.Core.Logic.{◌⊎◌}
@@ -8,15 +9,11 @@ use native.Mathlib.Omega.{arith}
 use Rattle.error.specs.declared.DpeErrorCode.{DpeErrorCode}
 use Rattle.error.specs.declared.DpeErrorCode.TheVariants.{InternalError, InvalidHandle, InvalidLocality}
 use Rattle.error.specs.declared.InternalErrorCode.TheVariants.{DestroyParentIndexOob}
-use Rattle.error.specs.declared.Outcome.TheVariants.{Done, Refused}
-use Rattle.children.specs.declared.Answer.TheVariants.{Marks}
 use Rattle.children.specs.Marks.{slot_count}
 use Rattle.children.proofs.Cases.{clash}
 use Rattle.children.proofs.Below.{length-list_of, list_of-at}
 use Rattle.context.specs.declared.Context.{Context}
 use Rattle.table.specs.declared.state.State.{State}
-use Rattle.table.specs.declared.state.Found.{Found}
-use Rattle.table.specs.declared.state.Found.TheVariants as found
 use Rattle.context.specs.Context.{no_context, slot_of}
 use Rattle.forest.specs.Destroy.{doomed_word, Destruction}
 use Rattle.forest.proofs.Destroy.{destruction}
@@ -57,11 +54,11 @@ module _ (t : State) where
     abbrev word : ℕ
     word = doomed_word both.down i both.run_set
 
-    run-told : run_in slot_count s i ≡ Marks both.run_set
+    run-told : run_in slot_count s i ≡ Ok both.run_set
     unfolding run_from told_of
     run-told = ap (told_of (InternalError DestroyParentIndexOob)) both.run_is
 
-    destroy-at : (h : List ℕ) (l : ℕ) → lookup_in slot_count s h l ≡ found.At i → destroy_of t h l ≡ record { answer = Done; state = cleared_by t word }
+    destroy-at : (h : List ℕ) (l : ℕ) → lookup_in slot_count s h l ≡ Ok i → destroy_of t h l ≡ record { answer = Ok tt; state = cleared_by t word }
     destroy-at h l e =
         found_at t h l i e ∙ both_walked t i v.slot both.run_set both.down run-told (told-down slot_count s i both.down v.slot both.down_is)
 
@@ -84,23 +81,23 @@ module _ (t : State) where
     clears_yes = rule_again slot_count (header_of t) s few F i v word both.exact _ (cleared-slots word)
 
 pub destroy_clears : (t : State) → Words slot_count (slot_of t.contexts) → Forest t → (h : List ℕ) (l i : ℕ)
-    → lookup_in slot_count (slot_of t.contexts) h l ≡ found.At i
-    → ((destroy_of t h l).answer ≡ Done) × DestroyedAt t i (destroy_of t h l).state × Forest (destroy_of t h l).state
+    → lookup_in slot_count (slot_of t.contexts) h l ≡ Ok i
+    → ((destroy_of t h l).answer ≡ Ok tt) × DestroyedAt t i (destroy_of t h l).state × Forest (destroy_of t h l).state
 destroy_clears t W F h l i e =
     let v = found-live t h l i ((found_iff slot_count (slot_of t.contexts) h l i).0 e) in
     rw (destroy-at t W F i v h l e) (refl, clears t W F i v, clears_yes t W F i v)
 
-pub destroy_refuses : (t : State) (h : List ℕ) (l : ℕ) (e : DpeErrorCode) → lookup_in slot_count (slot_of t.contexts) h l ≡ found.Refused e
-    → ((destroy_of t h l).answer ≡ Refused e) × ((destroy_of t h l).state ≡ t)
+pub destroy_refuses : (t : State) (h : List ℕ) (l : ℕ) (e : DpeErrorCode) → lookup_in slot_count (slot_of t.contexts) h l ≡ Err e
+    → ((destroy_of t h l).answer ≡ Err e) × ((destroy_of t h l).state ≡ t)
 destroy_refuses t h l e q = rw (not_found t h l e q) (refl, refl)
 
 pub destroy_only : (t : State) → Words slot_count (slot_of t.contexts) → Forest t → (h : List ℕ) (l : ℕ) (e : DpeErrorCode)
-    → (destroy_of t h l).answer ≡ Refused e → (e ≡ InvalidHandle) ⊎ (e ≡ InvalidLocality)
+    → (destroy_of t h l).answer ≡ Err e → (e ≡ InvalidHandle) ⊎ (e ≡ InvalidLocality)
 destroy_only t W F h l e q = go (lookup_in slot_count (slot_of t.contexts) h l) refl
   where
-    go : (f : Found) → lookup_in slot_count (slot_of t.contexts) h l ≡ f → (e ≡ InvalidHandle) ⊎ (e ≡ InvalidLocality)
-    go (found.At i) p = let d = (destroy_clears t W F h l i p).0 in absurd (let z : ◌≡◌ {A = ℕ} 0 1 = cc in omega arith)
-    go (found.Refused r) p =
+    go : (f : Result ℕ DpeErrorCode) → lookup_in slot_count (slot_of t.contexts) h l ≡ f → (e ≡ InvalidHandle) ⊎ (e ≡ InvalidLocality)
+    go (Ok i) p = let d = (destroy_clears t W F h l i p).0 in absurd (let z : ◌≡◌ {A = ℕ} 0 1 = cc in omega arith)
+    go (Err r) p =
         let d = (destroy_refuses t h l r p).0 in
         let z : r ≡ e = cc in
         rw z at (refused_by_lem slot_count (slot_of t.contexts) h l r p)

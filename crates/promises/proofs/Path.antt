@@ -1,4 +1,5 @@
 -- The path from a yes refuses no live slot. Assumes nothing.
+use Rattle.std.specs.Prelude.{Ok}
 use mathlib.Core.Path.{◌≡◌, sym, ap, ◌∙◌}
 use mathlib.Core.Bool.{true}
 use Prim.Native.Nat.{ℕ, zero, suc, ◌+◌, ◌-◌, ◌≤◌, ◌<◌}
@@ -11,7 +12,6 @@ use Rattle.children.proofs.Cases.{clash, and-true}
 use Rattle.children.proofs.Below.{list_of-at}
 use Rattle.context.specs.declared.Context.{Context}
 use Rattle.table.specs.declared.state.State.{State}
-use Rattle.table.specs.declared.state.Found.TheVariants.{At}
 use Rattle.context.specs.Context.{no_parent, slot_of}
 use Rattle.forest.specs.Links.{Linked, up}
 use Rattle.forest.proofs.Links.{up_in, no_slot, live_below, near_iff}
@@ -27,7 +27,7 @@ use Rattle.promises.proofs.Steps.{way-live}
 
 module _ (n : ℕ) (s : ℕ → Context) where
   -- the slot k steps above the last of a path of m slots
-  laid : (i m k : ℕ) → m ≤ n → k < m → get_or (slots_of n (λ j. steps_up (parent_at s) j i) (At m)) (m - suc k) 0 ≡ ancestor s k i
+  laid : (i m k : ℕ) → m ≤ n → k < m → get_or (slots_of n (λ j. steps_up (parent_at s) j i) (Ok m)) (m - suc k) 0 ≡ ancestor s k i
   unfolding slots_of
   laid i m k few h =
       let q : m - suc (m - suc k) ≡ k = omega arith in
@@ -39,7 +39,7 @@ module _ (n : ℕ) (s : ℕ → Context) where
 
     -- m steps lead from x to a root, and there is room for more than m
     rises : (m g j x : ℕ) → m < g → (table_of n s).live (up (table_of n s) m x) ≡ true → (table_of n s).parent (up (table_of n s) m x) ≡ no_parent
-        → length_from n (live_at s) (parent_at s) g j x ≡ At (j + suc m)
+        → length_from n (live_at s) (parent_at s) g j x ≡ Ok (j + suc m)
     unfolding up
     rises zero g j x h l e =
         let q = sym (parent_is n s x l) ∙ e in
@@ -56,7 +56,7 @@ module _ (n : ℕ) (s : ℕ → Context) where
         (parent-slot n (live_at s) (parent_at s) x (L.small x a) (live_here x a) (L.small (parent_at s x) b'))
         (λ z. clash b' (rw z (no_slot n (table_of n s) L)))
         ∙ rises m (g - 1) (j + 1) (parent_at s x) (omega arith) (rw p at l') (rw p at e')
-        ∙ ap At (let z : (j + 1) + suc m ≡ j + suc (suc m) = omega arith in z)
+        ∙ ap Ok (let z : (j + 1) + suc m ≡ j + suc (suc m) = omega arith in z)
 
 -- for any number of slots up to 64
 pub path : (n : ℕ) (h : Header) (s : ℕ → Context) → n ≤ mark_count → ForestRule n h s → (i : ℕ) → Live n s i → PathTo n s i (path_in n s i)
@@ -65,8 +65,8 @@ path n h s small F i v =
     let L = links n h s small F in
     let l = (live_is n s i).1 v in
     let a = (near_iff n (table_of n s) L i l).1 (roots n h s small F i l) in
-    let f : length_from n (live_at s) (parent_at s) n 0 i ≡ At (suc a.steps) =
-    rises n s L a.steps n 0 i a.few a.alive a.root ∙ ap At (let z : 0 + suc a.steps ≡ suc a.steps = omega arith in z) in
+    let f : length_from n (live_at s) (parent_at s) n 0 i ≡ Ok (suc a.steps) =
+    rises n s L a.steps n 0 i a.few a.alive a.root ∙ ap Ok (let z : 0 + suc a.steps ≡ suc a.steps = omega arith in z) in
     let w = a.few in
     let q : suc a.steps - 1 ≡ a.steps = omega arith in
     record {

@@ -1,15 +1,12 @@
 -- What is promised of every table that the validator says yes to, in document 01's words and the rule's: no walk stands in it. A table is a
 -- function s from a slot to its context, and n is the number of slots. Assumes nothing: these are definitions.
-use Rattle.std.specs.Prelude.{◌≡◌, List, ◌≢◌, ◌⊎◌, ◌↔◌, true, ℕ, suc, ◌-◌, ◌^◌, ◌≤◌, ◌<◌, length, get_or}
+use Rattle.std.specs.Prelude.{◌≡◌, List, ◌≢◌, ◌⊎◌, ◌↔◌, true, ℕ, suc, ◌-◌, ◌^◌, ◌≤◌, ◌<◌, length, get_or, Ok, Err}
 use Rattle.error.specs.declared.DpeErrorCode.{DpeErrorCode}
 use Rattle.error.specs.declared.DpeErrorCode.TheVariants.{InvalidHandle, InvalidLocality}
-use Rattle.error.specs.declared.Outcome.TheVariants.{Done, Refused}
-use Rattle.children.specs.declared.Answer.TheVariants.{Marks}
 use Rattle.children.specs.Marks.{slot_count, mark_count, marked, count_below}
 use Rattle.context.specs.declared.ContextState.TheVariants.{Retired}
 use Rattle.context.specs.declared.Context.{Context}
 use Rattle.table.specs.declared.state.State.{State}
-use Rattle.table.specs.declared.state.Found.TheVariants as found
 use Rattle.handle.specs.Handle.{default_handle}
 use Rattle.context.specs.Context.{no_parent, destroyed, with_children, slot_of}
 use Rattle.lookup.specs.Lookup.{lookup_in}
@@ -87,7 +84,7 @@ pub record Crowded (n : ℕ) (s : ℕ → Context) (l : ℕ) : Type 0 where
 -- the path p to i, which is no refusal: live slots from one that has no parent down to i, each the parent of the next
 pub record PathTo (n : ℕ) (s : ℕ → Context) (i : ℕ) (p : Path) : Type 0 where
   pub count : ℕ
-  pub found : p.length ≡ found.At count
+  pub found : p.length ≡ Ok count
   pub some : 0 < count
   pub few : count ≤ n
   pub slots : (k : ℕ) → k < count → get_or p.slots (count - suc k) 0 ≡ ancestor s k i
@@ -98,13 +95,13 @@ pub record PathTo (n : ℕ) (s : ℕ → Context) (i : ℕ) (p : Path) : Type 0 
 
 pub record Promises (t : State) : Type 0 where
   -- a destroy that finds its context succeeds, clears exactly what goes with it, and leaves a yes
-  pub destroy_clears : (h : List ℕ) (l i : ℕ) → lookup_in slot_count (slot_of t.contexts) h l ≡ found.At i
-      → ((destroy_of t h l).answer ≡ Done) × DestroyedAt t i (destroy_of t h l).state × Forest (destroy_of t h l).state
+  pub destroy_clears : (h : List ℕ) (l i : ℕ) → lookup_in slot_count (slot_of t.contexts) h l ≡ Ok i
+      → ((destroy_of t h l).answer ≡ Ok tt) × DestroyedAt t i (destroy_of t h l).state × Forest (destroy_of t h l).state
   -- one that finds none refuses as the lookup does, and changes nothing
-  pub destroy_refuses : (h : List ℕ) (l : ℕ) (e : DpeErrorCode) → lookup_in slot_count (slot_of t.contexts) h l ≡ found.Refused e
-      → ((destroy_of t h l).answer ≡ Refused e) × ((destroy_of t h l).state ≡ t)
+  pub destroy_refuses : (h : List ℕ) (l : ℕ) (e : DpeErrorCode) → lookup_in slot_count (slot_of t.contexts) h l ≡ Err e
+      → ((destroy_of t h l).answer ≡ Err e) × ((destroy_of t h l).state ≡ t)
   -- and there is no other refusal
-  pub destroy_only : (h : List ℕ) (l : ℕ) (e : DpeErrorCode) → (destroy_of t h l).answer ≡ Refused e → (e ≡ InvalidHandle) ⊎ (e ≡ InvalidLocality)
+  pub destroy_only : (h : List ℕ) (l : ℕ) (e : DpeErrorCode) → (destroy_of t h l).answer ≡ Err e → (e ≡ InvalidHandle) ⊎ (e ≡ InvalidLocality)
   -- rotate keeps a yes
   pub rotate_keeps : (h : List ℕ) (l flags : ℕ) (b : List ℕ) → Forest (rotated_of t h l flags b).state
   -- initialise keeps a yes exactly where the caller's locality does not end with an active default beside another active context
@@ -112,7 +109,7 @@ pub record Promises (t : State) : Type 0 where
       → Forest (initialized_of t flags l b).state ↔ ¬ Crowded slot_count (slot_of (initialized_of t flags l b).state.contexts) l
   -- descendants are exactly the slots below
   pub descendants_below : (i : ℕ) → Live slot_count (slot_of t.contexts) i
-      → (w : ℕ) × (descendants_in slot_count (slot_of t.contexts) i ≡ Marks w)
+      → (w : ℕ) × (descendants_in slot_count (slot_of t.contexts) i ≡ Ok w)
       × ((x : ℕ) → (marked w x ≡ true) ↔ BelowIn slot_count (slot_of t.contexts) x i)
   -- the path refuses no live slot
   pub path_found : (i : ℕ) → Live slot_count (slot_of t.contexts) i → PathTo slot_count (slot_of t.contexts) i (path_in slot_count (slot_of t.contexts) i)

@@ -1,4 +1,5 @@
 -- Laws of rotate: when a locality is occupied, what the tests answer in their order, and how a call ends. Assumes nothing.
+use Rattle.std.specs.Prelude.{Result, Ok, Err}
 use mathlib.Core.Path.{◌≡◌, refl, sym, ap, ◌∙◌}
 use mathlib.Core.Logic.{inl, inr, ◌↔◌}
 use mathlib.Core.Bool.{Bool, true, false, not, ◌&&◌, ◌||◌}
@@ -7,16 +8,12 @@ use Prim.Native.Nat.{ℕ, ◌+◌, ◌<◌}
 use lib.Dec.{eqb}
 use Rattle.error.specs.declared.DpeErrorCode.{DpeErrorCode}
 use Rattle.error.specs.declared.DpeErrorCode.TheVariants.{InvalidCommand, InvalidArgument}
-use Rattle.error.specs.declared.Outcome.{Outcome}
-use Rattle.error.specs.declared.Outcome.TheVariants as outcome
 use Rattle.children.specs.Below.{some}
 use Rattle.children.specs.Marks.{slot_count, marked}
 use Rattle.children.proofs.Cases.{two, clash, and_both, and_left, and_right, or_cases, or_left, or_right, or_none, not-false, eqb-true, true-eqb}
 use Rattle.children.proofs.Below.{some_next, some_of, none_of}
 use Rattle.context.specs.declared.Context.{Context}
 use Rattle.table.specs.declared.state.State.{State}
-use Rattle.table.specs.declared.state.Found.{Found}
-use Rattle.table.specs.declared.state.Found.TheVariants.{At, Refused}
 use Rattle.table.specs.declared.state.NewHandle.{NewHandle}
 use Rattle.handle.specs.Handle.{is_default, default_handle}
 use Rattle.table.specs.Flags.{rotate_bit, rotate_default_bit}
@@ -88,7 +85,7 @@ module _ (s : ℕ → Context) (l i : ℕ) where
   )
 
 -- the locality has an active default exactly where the lookup of the default handle finds a slot, which is what the Rust asks
-pub default_iff : (n : ℕ) (s : ℕ → Context) (l : ℕ) → (some (default_at s l) n ≡ true) ↔ ((i : ℕ) × (lookup_in n s default_handle l ≡ At i))
+pub default_iff : (n : ℕ) (s : ℕ → Context) (l : ℕ) → (some (default_at s l) n ≡ true) ↔ ((i : ℕ) × (lookup_in n s default_handle l ≡ Ok i))
 default_iff n s l = some_iff n s default_handle l
 
 -- ---- to default
@@ -103,13 +100,13 @@ module _ (t : State) (l i : ℕ) where
 -- ---- with the candidate that was chosen
 
 module _ (t : State) (i : ℕ) (b : List ℕ) (ch : Chosen) (is : ch ≡ chosen_in slot_count (slot_of t.contexts) b) where
-  pub not_chosen : (e : DpeErrorCode) → ch.answer ≡ outcome.Refused e
+  pub not_chosen : (e : DpeErrorCode) → ch.answer ≡ Err e
       → ◌≡◌ {A = NewHandle} (record { answer = ch.answer; handle = ch.handle; state = t }) (to_candidate t i b)
   not_chosen e a =
       let h : ch.handle ≡ default_handle = rw is (untaken slot_count (slot_of t.contexts) b e (rw is at a)).handle in
       rw (← is, a, h)
 
-  pub chosen : ch.answer ≡ outcome.Done → rotated_to t i ch.handle ≡ to_candidate t i b
+  pub chosen : ch.answer ≡ Ok tt → rotated_to t i ch.handle ≡ to_candidate t i b
   chosen a = rw (← is, a)
 
 -- ---- the tests in their order
@@ -121,17 +118,17 @@ module _ (t : State) (h : List ℕ) (l flags : ℕ) (b : List ℕ) where
 
   module _ (ok : not (marked t.support rotate_bit) ≡ false) where
     -- the lookup decides
-    pub by_lookup : (f : Found) → lookup_in slot_count (slot_of t.contexts) h l ≡ f → rotated_of t h l flags b ≡ rotated_at t l flags b f
+    pub by_lookup : (f : Result ℕ DpeErrorCode) → lookup_in slot_count (slot_of t.contexts) h l ≡ f → rotated_of t h l flags b ≡ rotated_at t l flags b f
     unfolding rotated_of
     by_lookup f e = rw (ok, e)
 
-    pub to_default_lem : (i : ℕ) → lookup_in slot_count (slot_of t.contexts) h l ≡ At i → marked flags rotate_default_bit ≡ true
+    pub to_default_lem : (i : ℕ) → lookup_in slot_count (slot_of t.contexts) h l ≡ Ok i → marked flags rotate_default_bit ≡ true
         → rotated_of t h l flags b ≡ to_default t l i
-    to_default_lem i e d = by_lookup (At i) e ∙ rw d
+    to_default_lem i e d = by_lookup (Ok i) e ∙ rw d
 
-    pub to_candidate_lem : (i : ℕ) → lookup_in slot_count (slot_of t.contexts) h l ≡ At i → marked flags rotate_default_bit ≡ false
+    pub to_candidate_lem : (i : ℕ) → lookup_in slot_count (slot_of t.contexts) h l ≡ Ok i → marked flags rotate_default_bit ≡ false
         → rotated_of t h l flags b ≡ to_candidate t i b
-    to_candidate_lem i e d = by_lookup (At i) e ∙ rw d
+    to_candidate_lem i e d = by_lookup (Ok i) e ∙ rw d
 
 -- ---- what an answer tells
 
@@ -145,16 +142,16 @@ pub data Ended (t : State) (h : List ℕ) (l flags : ℕ) (b : List ℕ) : Type 
 
 module _ (t : State) (h : List ℕ) (l flags : ℕ) (b : List ℕ) where
   module _ (ok : not (marked t.support rotate_bit) ≡ false) where
-    by_choice : (i : ℕ) → lookup_in slot_count (slot_of t.contexts) h l ≡ At i → marked flags rotate_default_bit ≡ false
-        → (o : Outcome) → (chosen_in slot_count (slot_of t.contexts) b).answer ≡ o → Ended t h l flags b
-    by_choice i p d outcome.Done a =
+    by_choice : (i : ℕ) → lookup_in slot_count (slot_of t.contexts) h l ≡ Ok i → marked flags rotate_default_bit ≡ false
+        → (o : Result Unit DpeErrorCode) → (chosen_in slot_count (slot_of t.contexts) b).answer ≡ o → Ended t h l flags b
+    by_choice i p d (Ok tt) a =
         to_taken i ((found_iff slot_count (slot_of t.contexts) h l i).0 p) (chosen_in slot_count (slot_of t.contexts) b).handle
         (taken slot_count (slot_of t.contexts) b a) (to_candidate_lem t h l flags b ok i p d ∙ rw a)
-    by_choice i p d (outcome.Refused e) a = unchanged e (to_candidate_lem t h l flags b ok i p d ∙ rw a)
+    by_choice i p d (Err e) a = unchanged e (to_candidate_lem t h l flags b ok i p d ∙ rw a)
 
-    by-found : (f : Found) → lookup_in slot_count (slot_of t.contexts) h l ≡ f → Ended t h l flags b
-    by-found (Refused e) p = unchanged e (by_lookup t h l flags b ok (Refused e) p)
-    by-found (At i) p = elim (two (marked flags rotate_default_bit)) [
+    by-found : (f : Result ℕ DpeErrorCode) → lookup_in slot_count (slot_of t.contexts) h l ≡ f → Ended t h l flags b
+    by-found (Err e) p = unchanged e (by_lookup t h l flags b ok (Err e) p)
+    by-found (Ok i) p = elim (two (marked flags rotate_default_bit)) [
       | inr d ↦ by_choice i p d _ refl
       | inl d ↦ elim (two (occupied slot_count (slot_of t.contexts) l i)) [
         | inl o ↦ unchanged InvalidArgument (to_default_lem t h l flags b ok i p d ∙ default_refused t l i o)
@@ -170,7 +167,7 @@ module _ (t : State) (h : List ℕ) (l flags : ℕ) (b : List ℕ) where
   ]
 
   -- a refusal changes nothing
-  pub refused : (e : DpeErrorCode) → (rotated_of t h l flags b).answer ≡ outcome.Refused e → rotated_of t h l flags b ≡ refused_of t e
+  pub refused : (e : DpeErrorCode) → (rotated_of t h l flags b).answer ≡ Err e → rotated_of t h l flags b ≡ refused_of t e
   refused e p = elim ended [
     | unchanged r q ↦ q ∙ ap (refused_of t) (same_refused (sym (ap (λ (x : NewHandle). x.answer) q) ∙ p))
     | to-zero i g o q ↦ never_done (sym (ap (λ (x : NewHandle). x.answer) q) ∙ p)

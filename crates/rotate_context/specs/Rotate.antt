@@ -1,15 +1,12 @@
 -- Rotate, over the table t, the handle h, the locality l, the flags and the bytes b of the lent candidates. Where slots are looked through, a
 -- table is a function s from a slot to its context, and n is the number of slots. Assumes nothing: these are definitions.
-use Rattle.std.specs.Prelude.{Bool, cond, not, ◌&&◌, ◌||◌, List, ℕ, eqb}
+use Rattle.error.specs.declared.DpeErrorCode.{DpeErrorCode}
+use Rattle.std.specs.Prelude.{Bool, cond, not, ◌&&◌, ◌||◌, List, ℕ, eqb, Result, Ok, Err}
 use Rattle.error.specs.declared.DpeErrorCode.TheVariants.{InvalidCommand, InvalidArgument}
-use Rattle.error.specs.declared.Outcome.{Outcome}
-use Rattle.error.specs.declared.Outcome.TheVariants as outcome
 use Rattle.children.specs.Below.{some}
 use Rattle.children.specs.Marks.{slot_count, marked}
 use Rattle.context.specs.declared.Context.{Context}
 use Rattle.table.specs.declared.state.State.{State}
-use Rattle.table.specs.declared.state.Found.{Found}
-use Rattle.table.specs.declared.state.Found.TheVariants as found
 use Rattle.table.specs.declared.state.NewHandle.{NewHandle}
 use Rattle.handle.specs.Handle.{is_default, default_handle}
 use Rattle.table.specs.Flags.{rotate_bit, rotate_default_bit}
@@ -39,18 +36,18 @@ abbrev pub to_default : State → ℕ → ℕ → NewHandle
 to_default t l i = cond (occupied slot_count (slot_of t.contexts) l i) (refused_of t InvalidArgument) (rotated_to t i default_handle)
 
 -- the candidate h, where one was chosen
-abbrev pub to_chosen : State → ℕ → List ℕ → Outcome → NewHandle
-to_chosen t i h outcome.Done = rotated_to t i h
-to_chosen t i h (outcome.Refused e) = refused_of t e
+abbrev pub to_chosen : State → ℕ → List ℕ → Result Unit DpeErrorCode → NewHandle
+to_chosen t i h (Ok tt) = rotated_to t i h
+to_chosen t i h (Err e) = refused_of t e
 
 -- not to default: choose a candidate
 abbrev pub to_candidate : State → ℕ → List ℕ → NewHandle
 to_candidate t i b = to_chosen t i (chosen_in slot_count (slot_of t.contexts) b).handle (chosen_in slot_count (slot_of t.contexts) b).answer
 
 -- by what the lookup answered
-abbrev pub rotated_at : State → ℕ → ℕ → List ℕ → Found → NewHandle
-rotated_at t l flags b (found.At i) = cond (marked flags rotate_default_bit) (to_default t l i) (to_candidate t i b)
-rotated_at t l flags b (found.Refused e) = refused_of t e
+abbrev pub rotated_at : State → ℕ → ℕ → List ℕ → Result ℕ DpeErrorCode → NewHandle
+rotated_at t l flags b (Ok i) = cond (marked flags rotate_default_bit) (to_default t l i) (to_candidate t i b)
+rotated_at t l flags b (Err e) = refused_of t e
 
 -- in order: no support, InvalidCommand; lookup; the new handle
 unfoldable pub rotated_of : State → List ℕ → ℕ → ℕ → List ℕ → NewHandle

@@ -10,8 +10,8 @@ ghost use Rattle.rotate_context.specs.Rotate.{occupied, rotated_to, to_default, 
 
 use children::MAX_HANDLES;
 use context::Context;
-use error::{DpeErrorCode, Outcome};
-use table::state::{Found, NewHandle, State};
+use error::DpeErrorCode;
+use table::state::{NewHandle, State};
 use table::{flags, state, support};
 
 // Whether a context keeps the locality from a new default: it is active there, and a default, or not the target.
@@ -45,7 +45,7 @@ fn rotated(t: State, i: usize, handle: [u8; handle::SIZE]) -> NewHandle
     let c = Context { handle, ..old };
     let state = state::with_context(t, i, c);
     NewHandle {
-        answer: Outcome::Done,
+        answer: Ok(()),
         handle,
         state,
     }
@@ -70,7 +70,7 @@ fn rotate_to_candidate(t: State, i: usize, candidates: &[u8]) -> NewHandle
     let chosen = candidates::generate_new_handle(t, candidates);
     let answer = chosen.answer;
     let handle = chosen.handle;
-    let Outcome::Done = answer else {
+    let Ok(()) = answer else {
         return NewHandle {
             answer,
             handle,
@@ -95,7 +95,7 @@ pub fn rotate_context(
         return state::refused(t, DpeErrorCode::InvalidCommand);
     }
     let found = lookup::get_active_context_pos(t, handle, locality);
-    let Found::At(i) = found else {
+    let Ok(i) = found else {
         return state::refused(t, lookup::why(found));
     };
     if flags::uses_target_is_default(flags) {

@@ -1,18 +1,14 @@
 -- The whole table: a new one, its updates, and what is counted and looked for in it. Where slots are looked through, a table is a function s
 -- from a slot to its context, and n is the number of slots. Assumes nothing: these are definitions.
-use Rattle.std.specs.Prelude.{Bool, cond, List, ℕ, ltb, replicate, set}
+use Rattle.std.specs.Prelude.{Bool, cond, List, ℕ, ltb, replicate, set, Result, Ok, Err}
 use Rattle.error.specs.declared.DpeErrorCode.{DpeErrorCode}
 use Rattle.error.specs.declared.DpeErrorCode.TheVariants.{MaxTcis}
-use Rattle.error.specs.declared.Outcome.TheVariants as outcome
 use Rattle.children.specs.Below.{count, lowest}
 use Rattle.children.specs.Marks.{slot_count}
 use Rattle.context.specs.declared.ContextState.{ContextState}
 use Rattle.context.specs.declared.Context.{Context}
 use Rattle.table.specs.declared.state.State.{State}
-use Rattle.table.specs.declared.state.Found.{Found}
-use Rattle.table.specs.declared.state.Found.TheVariants.{At, Refused}
-use Rattle.table.specs.declared.state.NewHandle.{NewHandle}
-use Rattle.handle.specs.Handle.{default_handle}
+use Rattle.table.specs.declared.state.Outcome.{Outcome}
 use Rattle.context.specs.Context.{new_context, same_state, is_inactive}
 
 -- the marker and the version that a table must have
@@ -61,14 +57,15 @@ with_initialized t = record {
   reserved = t.reserved;
 }
 
--- ---- answers with a new handle
+-- ---- how a call ends that may change the table
 
--- a refusal: the table as it was, and no handle
-abbrev pub refused_of : State → DpeErrorCode → NewHandle
-refused_of t e = record { answer = outcome.Refused e; handle = default_handle; state = t }
+-- a refusal: the table as it was
+abbrev pub refused_of : {A : Type 0} → State → DpeErrorCode → Outcome A
+refused_of t e = record { answer = Err e; state = t }
 
-abbrev pub handed_of : State → List ℕ → NewHandle
-handed_of t h = record { answer = outcome.Done; handle = h; state = t }
+-- a new handle was given, and the table is t
+abbrev pub handed_of : State → List ℕ → Outcome (List ℕ)
+handed_of t h = record { answer = Ok h; state = t }
 
 -- ---- slots
 
@@ -84,5 +81,5 @@ abbrev pub count_in : ℕ → (ℕ → Context) → ContextState → ℕ
 count_in n s k = count (is_in_state s k) n
 
 -- the lowest inactive slot; none: MaxTcis
-unfoldable pub free_in : ℕ → (ℕ → Context) → Found
-free_in n s = cond (ltb (lowest (idle_at s) n) n) (At (lowest (idle_at s) n)) (Refused MaxTcis)
+unfoldable pub free_in : ℕ → (ℕ → Context) → Result ℕ DpeErrorCode
+free_in n s = cond (ltb (lowest (idle_at s) n) n) (Ok (lowest (idle_at s) n)) (Err MaxTcis)

@@ -6,7 +6,7 @@ ghost use Rattle.table.specs.State.{new_state, with_slot, with_initialized, coun
 
 use children::MAX_HANDLES;
 use context::{Context, ContextState};
-use error::{DpeErrorCode, Outcome};
+use error::DpeErrorCode;
 
 // "DPES", read as a big-endian number.
 pub const MAGIC: u32 = 0x4450_4553;
@@ -24,18 +24,10 @@ pub struct State {
     pub reserved: u8,
 }
 
-// A slot, or a refusal.
+// How a call ended that may change the table, and the table: the one that was given where the answer is a refusal.
 #[derive(Clone, Copy)]
-pub enum Found {
-    At(usize),
-    Refused(DpeErrorCode),
-}
-
-// What initialise and rotate answer: how it ended, the new handle, all zero for a refusal, and the table.
-#[derive(Clone, Copy)]
-pub struct NewHandle {
-    pub answer: Outcome,
-    pub handle: [u8; handle::SIZE],
+pub struct Outcome<T> {
+    pub answer: Result<T, DpeErrorCode>,
     pub state: State,
 }
 
@@ -77,14 +69,12 @@ pub fn with_initialized(t: State) -> State
     u
 }
 
-// A refusal: the table as it was, and no handle.
-pub fn refused(t: State, e: DpeErrorCode) -> NewHandle
+// A refusal: the table as it was.
+pub fn refused<T>(t: State, e: DpeErrorCode) -> Outcome<T>
     ensures { result ≡ refused_of t e }
 {
-    let handle = handle::default();
-    NewHandle {
-        answer: Outcome::Refused(e),
-        handle,
+    Outcome {
+        answer: Err(e),
         state: t,
     }
 }
@@ -105,15 +95,15 @@ pub fn count_contexts(t: State, state: ContextState) -> usize
 }
 
 // The lowest inactive slot.
-pub fn get_next_inactive_context_pos(t: State) -> Found
+pub fn get_next_inactive_context_pos(t: State) -> Result<usize, DpeErrorCode>
     ensures { result ≡ free_in slot_count (slot_of t.contexts) }
 {
     for i in 0..MAX_HANDLES {
         let c = t.contexts[i];
         let s = c.state;
         if context::is_inactive(s) {
-            return Found::At(i);
+            return Ok(i);
         }
     }
-    Found::Refused(DpeErrorCode::MaxTcis)
+    Err(DpeErrorCode::MaxTcis)
 }

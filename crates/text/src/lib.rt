@@ -11,7 +11,6 @@ ghost use Rattle.text_row.specs.Row.{PutAt, row_most};
 ghost use Rattle.text.specs.Text.{line_of, rows_to, listing_of};
 
 use children::MAX_HANDLES;
-use error::Outcome;
 use text_row::{ROW_MOST, VERDICT_MOST};
 use view::SlotFields;
 
@@ -52,10 +51,10 @@ pub fn list(image: &[u8], out: &mut [u8; LISTING_SIZE]) -> usize
     ensures prefix_len { IsPrefixLen result out.new }
 {
     match peek_validate::validate_image(image) {
-        Outcome::Done => {
+        Ok(()) => {
             let a = text_row::put_verdict(out, 0, 0);
             put_rows(image, out, a)
         }
-        Outcome::Refused(e) => text_row::put_verdict(out, error::outer(e), error::inner(e)),
+        Err(e) => text_row::put_verdict(out, error::outer(e), error::inner(e)),
     }
 }

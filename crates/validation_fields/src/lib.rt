@@ -10,26 +10,25 @@ use context::tci::{TCI_SIZE, TciNodeData};
 use context::{Context, u8bool};
 use error::ValidationError;
 use table::support;
-use verdict::Verdict;
 
 // What a context uses against the support word.
-pub fn support_test(c: Context, word: u32) -> Verdict
+pub fn support_test(c: Context, word: u32) -> Result<(), ValidationError>
     ensures { result ≡ support_of word c }
 {
     let k = c.context_type;
     if !context::is_normal(k) & !support::simulation(word) {
-        return Verdict::Fault(ValidationError::SimulationNotSupported);
+        return Err(ValidationError::SimulationNotSupported);
     }
     if u8bool::get(c.uses_internal_input_dice) & !support::internal_dice(word) {
-        return Verdict::Fault(ValidationError::InternalDiceNotSupported);
+        return Err(ValidationError::InternalDiceNotSupported);
     }
     if u8bool::get(c.uses_internal_input_info) & !support::internal_info(word) {
-        return Verdict::Fault(ValidationError::InternalInfoNotSupported);
+        return Err(ValidationError::InternalInfoNotSupported);
     }
     if (c.parent_idx != context::ROOT_INDEX) & (u8bool::get(c.allow_x509) & !support::x509(word)) {
-        return Verdict::Fault(ValidationError::AllowX509NotSupported);
+        return Err(ValidationError::AllowX509NotSupported);
     }
-    Verdict::Valid
+    Ok(())
 }
 
 // Whether a measurement is all zero.
@@ -54,24 +53,24 @@ fn is_zero_tci(d: TciNodeData) -> bool
 }
 
 // A context that is not in use.
-pub fn inactive_test(c: Context) -> Verdict
+pub fn inactive_test(c: Context) -> Result<(), ValidationError>
     ensures { result ≡ inactive_of c }
 {
     if c.parent_idx != context::ROOT_INDEX {
-        return Verdict::Fault(ValidationError::InactiveContextInvalidParent);
+        return Err(ValidationError::InactiveContextInvalidParent);
     }
     if children::has_children(c.children) {
-        return Verdict::Fault(ValidationError::InactiveContextWithChildren);
+        return Err(ValidationError::InactiveContextWithChildren);
     }
     let d = c.tci;
     if !is_zero_tci(d) {
-        return Verdict::Fault(ValidationError::InactiveContextWithMeasurement);
+        return Err(ValidationError::InactiveContextWithMeasurement);
     }
     if u8bool::get(c.uses_internal_input_dice)
         | u8bool::get(c.allow_x509)
         | u8bool::get(c.uses_internal_input_info)
     {
-        return Verdict::Fault(ValidationError::InactiveContextWithFlagSet);
+        return Err(ValidationError::InactiveContextWithFlagSet);
     }
-    Verdict::Valid
+    Ok(())
 }

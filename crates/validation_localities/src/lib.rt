@@ -12,7 +12,6 @@ ghost use Rattle.validation_localities.specs.Summary.{places_of, beside_in, crow
 use children::MAX_HANDLES;
 use error::ValidationError;
 use table::state::State;
-use verdict::Verdict;
 
 // Who is where.
 #[derive(Clone, Copy)]
@@ -56,20 +55,20 @@ fn one_more(b: bool, x: usize) -> usize
 }
 
 // The active defaults and others of a locality, so far.
-fn mix_test(d: usize, o: usize) -> Verdict
+fn mix_test(d: usize, o: usize) -> Result<(), ValidationError>
     ensures { result ≡ mix_test d o }
 {
     if d > 1 {
-        return Verdict::Fault(ValidationError::MultipleDefaultContexts);
+        return Err(ValidationError::MultipleDefaultContexts);
     }
     if (d != 0) & (o != 0) {
-        return Verdict::Fault(ValidationError::MixedContextLocality);
+        return Err(ValidationError::MixedContextLocality);
     }
-    Verdict::Valid
+    Ok(())
 }
 
 // The locality l, slots upward.
-fn locality_test(localities: &[u32; MAX_HANDLES], defaults: u64, others: u64, l: u32) -> Verdict
+fn locality_test(localities: &[u32; MAX_HANDLES], defaults: u64, others: u64, l: u32) -> Result<(), ValidationError>
     ensures { result ≡ locality_of slot_count (within (number_in localities.now) (marked defaults) l) (within (number_in localities.now) (marked others) l) }
 {
     let mut d: usize = 0;
@@ -79,11 +78,11 @@ fn locality_test(localities: &[u32; MAX_HANDLES], defaults: u64, others: u64, l:
         d = one_more(here & children::has_child(defaults, k), d);
         o = one_more(here & children::has_child(others, k), o);
         let v = mix_test(d, o);
-        let Verdict::Valid = v else {
+        let Ok(()) = v else {
             return v;
         };
     }
-    Verdict::Valid
+    Ok(())
 }
 
 // Whether another default than slot i, or an active other, is in the locality of slot i.
@@ -124,24 +123,24 @@ fn is_crowded(localities: &[u32; MAX_HANDLES], defaults: u64, others: u64) -> bo
 }
 
 // The first fault of the localities of the slots, upward.
-fn first_fault(localities: &[u32; MAX_HANDLES], defaults: u64, others: u64) -> Verdict
+fn first_fault(localities: &[u32; MAX_HANDLES], defaults: u64, others: u64) -> Result<(), ValidationError>
     ensures { result ≡ localities_test slot_count (number_in localities.now) (marked defaults) (marked others) }
 {
     for j in 0..MAX_HANDLES {
         let v = locality_test(localities, defaults, others, localities[j]);
-        let Verdict::Valid = v else {
+        let Ok(()) = v else {
             return v;
         };
     }
-    Verdict::Valid
+    Ok(())
 }
 
 // The localities of the slots, upward.
-pub fn localities_test(localities: &[u32; MAX_HANDLES], defaults: u64, others: u64) -> Verdict
+pub fn localities_test(localities: &[u32; MAX_HANDLES], defaults: u64, others: u64) -> Result<(), ValidationError>
     ensures { result ≡ localities_test slot_count (number_in localities.now) (marked defaults) (marked others) }
 {
     if !is_crowded(localities, defaults, others) {
-        return Verdict::Valid;
+        return Ok(());
     }
     first_fault(localities, defaults, others)
 }

@@ -1,4 +1,6 @@
 -- The marks of a slot, tested from mark to mark, and those above the slots in one test. Assumes nothing.
+use Rattle.error.specs.declared.ValidationError.{ValidationError}
+use Rattle.std.specs.Prelude.{Result, Ok, Err}
 use mathlib.Core.Bool.{Bool, true, false}
 use mathlib.Core.Path.{◌≡◌, sym, ap, ◌∙◌}
 use Prim.Native.Nat.{ℕ, ◌+◌, ◌-◌, ◌/◌, ◌%◌, ◌^◌, ◌≤◌, ◌<◌}
@@ -13,17 +15,15 @@ use Rattle.children.specs.Below.{lowest_from}
 use Rattle.children.specs.Marks.{mark_count, marked, next_below}
 use Rattle.children.proofs.Below.{low_ge, low-le, low_bare, low_passes}
 use Rattle.children.proofs.Marks.{marked-high, no-marks}
-use Rattle.verdict.specs.declared.Verdict.{Verdict}
-use Rattle.verdict.specs.declared.Verdict.TheVariants.{Valid, Fault}
 use Rattle.verdict.specs.Tests.{first_below, child_test}
 use Rattle.verdict.proofs.Steps.{pass, stop, where_on, where_off, below_iff, below_stop}
 use Rattle.validation_slots.specs.Summary.{slot_child}
 
 module _ (n : ℕ) (live : ℕ → Bool) (parent : ℕ → ℕ) (i m : ℕ) where
-  abbrev pub Child : ℕ → Verdict
+  abbrev pub Child : ℕ → Result Unit ValidationError
   Child = child_test n live parent i m
 
-  child_none : (c : ℕ) → marked m c ≡ false → Child c ≡ Valid
+  child_none : (c : ℕ) → marked m c ≡ false → Child c ≡ Ok tt
   unfolding child_test
   child_none c e = where_off _ _ e
 
@@ -31,19 +31,19 @@ module _ (n : ℕ) (live : ℕ → Bool) (parent : ℕ → ℕ) (i m : ℕ) wher
   unfolding child_test
   child-slot c h e = where_on _ _ e ∙ pass _ _ _ (lt-ltb c n h)
 
-  child-above : (c : ℕ) → n ≤ c → marked m c ≡ true → Child c ≡ Fault ChildDoesNotExist
+  child-above : (c : ℕ) → n ≤ c → marked m c ≡ true → Child c ≡ Err ChildDoesNotExist
   unfolding child_test
   child-above c h e = where_on _ _ e ∙ stop _ _ _ (le-ltb c n h)
 
   -- slots that are not marked are passed over
-  skip : (a b : ℕ) → ((j : ℕ) → a ≤ j → j < b → marked m j ≡ false) → first_below Child a ≡ Valid → first_below Child b ≡ Valid
+  skip : (a b : ℕ) → ((j : ℕ) → a ≤ j → j < b → marked m j ≡ false) → first_below Child a ≡ Ok tt → first_below Child b ≡ Ok tt
   skip a b f e = (below_iff Child b).1 (λ j h. elim (dec_lt j a) [ yes l ↦ (below_iff Child a).0 e j l | no nl ↦ child_none j (f j (omega arith) h) ])
 
   -- what holds at each turn: no fault below k, and k is a mark or the end
   abbrev pub Turn : ℕ → Type 0
-  Turn k = (k ≤ n) × (first_below Child k ≡ Valid) × (k < n → marked m k ≡ true)
+  Turn k = (k ≤ n) × (first_below Child k ≡ Ok tt) × (k < n → marked m k ≡ true)
 
-  pub turn_on : (k r : ℕ) → k ≤ n → first_below Child k ≡ Valid → r ≡ next_below n m k → Turn r
+  pub turn_on : (k r : ℕ) → k ≤ n → first_below Child k ≡ Ok tt → r ≡ next_below n m k → Turn r
   turn_on k r h e q =
       let ge = low_ge (marked m) (n - k) k in
       let le = low-le (marked m) (n - k) k in (
@@ -58,12 +58,12 @@ module _ (n : ℕ) (live : ℕ → Bool) (parent : ℕ → ℕ) (i m : ℕ) wher
   unfolding marked
   above j = ap (λ (x : ℕ). eqb (x % 2) 1) (shr-shr m n j)
 
-  pub none_above : m / 2 ^ n ≡ 0 → first_below Child n ≡ Valid → first_below Child mark_count ≡ Valid
+  pub none_above : m / 2 ^ n ≡ 0 → first_below Child n ≡ Ok tt → first_below Child mark_count ≡ Ok tt
   none_above z e =
       let small : m < 2 ^ n = rw (one-mul (2 ^ n)) at ((div-lt_iff_lt-mul {x = m} {y = 1} (pow_pos n)).0 (omega arith)) in
       skip n mark_count (λ j l h. marked-high n m j small l) e
 
-  pub some-above : n ≤ mark_count → m < 2 ^ mark_count → (m / 2 ^ n ≡ 0 → ⊥) → first_below Child n ≡ Valid → first_below Child mark_count ≡ Fault ChildDoesNotExist
+  pub some-above : n ≤ mark_count → m < 2 ^ mark_count → (m / 2 ^ n ≡ 0 → ⊥) → first_below Child n ≡ Ok tt → first_below Child mark_count ≡ Err ChildDoesNotExist
   some-above few word nz e =
       let g = mark_count - n in
       let k = lowest_from (marked m) g n in

@@ -13,41 +13,40 @@ use context::{Context, ContextState, u8bool};
 use error::ValidationError;
 use table::state::State;
 use table::support;
-use verdict::Verdict;
 
 // The parent p of the slot i.
-fn parent_test(children: &[u64; MAX_HANDLES], live: u64, i: usize, p: u8) -> Verdict
+fn parent_test(children: &[u64; MAX_HANDLES], live: u64, i: usize, p: u8) -> Result<(), ValidationError>
     requires { i < slot_count }
     ensures { result ≡ parent_test slot_count (marked live) (number_in children.now) i p }
 {
     if p == context::ROOT_INDEX {
-        return Verdict::Valid;
+        return Ok(());
     }
     let q = p as usize;
     if q >= MAX_HANDLES {
-        return Verdict::Fault(ValidationError::ParentDoesNotExist);
+        return Err(ValidationError::ParentDoesNotExist);
     }
     if !children::has_child(live, q) {
-        return Verdict::Fault(ValidationError::InactiveParent);
+        return Err(ValidationError::InactiveParent);
     }
     if !children::has_child(children[q], i) {
-        return Verdict::Fault(ValidationError::ParentChildLinksCorrupted);
+        return Err(ValidationError::ParentChildLinksCorrupted);
     }
-    Verdict::Valid
+    Ok(())
 }
 
 // The slot k, which the slot i marks as its child, and whose parent is p.
-fn child_test(live: u64, i: usize, k: usize, p: u8) -> Verdict
+fn child_test(live: u64, i: usize, k: usize, p: u8) -> Result<(), ValidationError>
     requires { k < slot_count }
     ensures { result ≡ slot_child (marked live k) p i }
 {
     if !children::has_child(live, k) {
-        return Verdict::Fault(ValidationError::InactiveChild);
+        return Err(ValidationError::InactiveChild);
     }
     if p as usize != i {
-        return Verdict::Fault(ValidationError::ParentChildLinksCorrupted);
+        return Err(ValidationError::ParentChildLinksCorrupted);
     }
-    Verdict::Valid
+    Ok(())
 }
 
 // Whether there is a mark above those of the slots.
@@ -58,21 +57,21 @@ fn has_mark_above(m: u64) -> bool
 }
 
 // The marks m of the slot i: those of slots from mark to mark, and then the rest in one test.
-fn children_test(parents: &[u8; MAX_HANDLES], live: u64, i: usize, m: u64) -> Verdict
+fn children_test(parents: &[u8; MAX_HANDLES], live: u64, i: usize, m: u64) -> Result<(), ValidationError>
     ensures { result ≡ first_below (child_test slot_count (marked live) (number_in parents.now) i m) mark_count }
 {
     let mut k = children::next(m, 0);
     while k < MAX_HANDLES {
         let v = child_test(live, i, k, parents[k]);
-        let Verdict::Valid = v else {
+        let Ok(()) = v else {
             return v;
         };
         k = children::next(m, k + 1);
     }
     if has_mark_above(m) {
-        return Verdict::Fault(ValidationError::ChildDoesNotExist);
+        return Err(ValidationError::ChildDoesNotExist);
     }
-    Verdict::Valid
+    Ok(())
 }
 
 // The links of the slot i.
@@ -81,12 +80,12 @@ fn links_test(
     parents: &[u8; MAX_HANDLES],
     live: u64,
     i: usize,
-) -> Verdict
+) -> Result<(), ValidationError>
     requires { i < slot_count }
     ensures { result ≡ links_on children.now parents.now live i }
 {
     let v = parent_test(children, live, i, parents[i]);
-    let Verdict::Valid = v else {
+    let Ok(()) = v else {
         return v;
     };
     children_test(parents, live, i, children[i])
@@ -100,13 +99,13 @@ fn active_test(
     parents: &[u8; MAX_HANDLES],
     live: u64,
     i: usize,
-) -> Verdict
+) -> Result<(), ValidationError>
     requires { i < slot_count }
     ensures { result ≡ state_of ContextState.Active slot_count init c (links_on children.now parents.now live i) }
 {
     let k = c.context_type;
     if context::is_normal(k) & !u8bool::get(init) {
-        return Verdict::Fault(ValidationError::DpeNotMarkedInitialized);
+        return Err(ValidationError::DpeNotMarkedInitialized);
     }
     links_test(children, parents, live, i)
 }
@@ -118,18 +117,18 @@ fn retired_test(
     parents: &[u8; MAX_HANDLES],
     live: u64,
     i: usize,
-) -> Verdict
+) -> Result<(), ValidationError>
     requires { i < slot_count }
     ensures { result ≡ state_of ContextState.Retired slot_count 0 c (links_on children.now parents.now live i) }
 {
     let v = links_test(children, parents, live, i);
-    let Verdict::Valid = v else {
+    let Ok(()) = v else {
         return v;
     };
     if children::count(c.children) == 0 {
-        return Verdict::Fault(ValidationError::DanglingRetiredContext);
+        return Err(ValidationError::DanglingRetiredContext);
     }
-    Verdict::Valid
+    Ok(())
 }
 
 // The context of the slot i, by its state.
@@ -140,7 +139,7 @@ fn state_test(
     parents: &[u8; MAX_HANDLES],
     live: u64,
     i: usize,
-) -> Verdict
+) -> Result<(), ValidationError>
     requires { i < slot_count }
     ensures { result ≡ state_of c.state slot_count init c (links_on children.now parents.now live i) }
 {
@@ -161,23 +160,23 @@ pub fn context_test(
     parents: &[u8; MAX_HANDLES],
     live: u64,
     i: usize,
-) -> Verdict
+) -> Result<(), ValidationError>
     requires { i < slot_count }
     ensures { result ≡ context_of slot_count word init c (links_on children.now parents.now live i) }
 {
     let v = validation_fields::support_test(c, word);
-    let Verdict::Valid = v else {
+    let Ok(()) = v else {
         return v;
     };
     let w = state_test(c, init, children, parents, live, i);
-    let Verdict::Valid = w else {
+    let Ok(()) = w else {
         return w;
     };
     let d = c.tci;
     if c.locality != d.locality {
-        return Verdict::Fault(ValidationError::LocalityMismatch);
+        return Err(ValidationError::LocalityMismatch);
     }
-    Verdict::Valid
+    Ok(())
 }
 
 // Each slot of the table, upward.
@@ -186,15 +185,15 @@ pub fn slots_test(
     children: &[u64; MAX_HANDLES],
     parents: &[u8; MAX_HANDLES],
     live: u64,
-) -> Verdict
+) -> Result<(), ValidationError>
     ensures { result ≡ first_below (slot_in (header_of t) (slot_of t.contexts) children.now parents.now live) slot_count }
 {
     for i in 0..MAX_HANDLES {
         let c = t.contexts[i];
         let v = context_test(c, t.support, t.has_initialized, children, parents, live, i);
-        let Verdict::Valid = v else {
+        let Ok(()) = v else {
             return v;
         };
     }
-    Verdict::Valid
+    Ok(())
 }

@@ -1,4 +1,5 @@
 -- The search below a slot and from the roots, one law for each way out; and the last tests. Assumes nothing.
+use Rattle.std.specs.Prelude.{Ok, Err}
 use mathlib.Core.Bool.{Bool, true, false, not, cond, ◌&&◌, ◌||◌}
 use mathlib.Core.List.{List, []}
 use mathlib.Core.Logic.{inl, inr}
@@ -20,28 +21,26 @@ use Rattle.context.specs.Context.{no_parent}
 use Rattle.forest.specs.Links.{Table}
 use Rattle.forest.specs.Search.{Verdict, cycles, mixed, fine, and_then, each, visit, is_root, search_roots, normal_root, last_tests, judge, find_fault}
 use Rattle.links.specs.Summary.{number_in}
-use Rattle.verdict.specs.declared.Verdict.TheVariants.{Valid, Fault}
 use Rattle.verdict.specs.Tests.{found_fault}
-use Rattle.validation_trees.specs.declared.Search.TheVariants.{Seen, Flaw}
 use Rattle.validation_trees.specs.Summary.{table_in, told, root_step, seen_in}
 
 -- ---- what the code answers for a search
 
-pub told_seen : (v : Verdict) (w : ℕ) → told v ≡ Seen w → v ≡ fine w
+pub told_seen : (v : Verdict) (w : ℕ) → told v ≡ Ok w → v ≡ fine w
 unfolding told
 told_seen cycles w e = absurd (let z : ◌≡◌ {A = ℕ} 0 1 = cc in omega arith)
 told_seen mixed w e = absurd (let z : ◌≡◌ {A = ℕ} 0 1 = cc in omega arith)
 told_seen (fine z) w e = let q : z ≡ w = cc in ap fine q
 
-pub is-cycles : (v : Verdict) → v ≡ cycles → Flaw CyclesInTree ≡ told v
+pub is-cycles : (v : Verdict) → v ≡ cycles → Err CyclesInTree ≡ told v
 unfolding told
 is-cycles v e = rw e
 
-pub is-mixed : (v : Verdict) → v ≡ mixed → Flaw MixedContextTypeConnectedComponents ≡ told v
+pub is-mixed : (v : Verdict) → v ≡ mixed → Err MixedContextTypeConnectedComponents ≡ told v
 unfolding told
 is-mixed v e = rw e
 
-pub is_seen : (v : Verdict) (w : ℕ) → v ≡ fine w → Seen w ≡ told v
+pub is_seen : (v : Verdict) (w : ℕ) → v ≡ fine w → Ok w ≡ told v
 unfolding told
 is_seen v w e = rw e
 
@@ -61,8 +60,8 @@ module _ (rec : ℕ → ℕ → Verdict) (m : ℕ → Bool) (z : ℕ) where
   stays k n w v a h e b q = le_ind (λ (i : ℕ). each rec m z i ≡ v) (rw e (rw b q)) (λ i l g. rw g (a _)) n h
 
   -- a flaw is the whole search's
-  pub each_flaw : (k n w : ℕ) (e : ValidationError) (v : Verdict) → k < n → each rec m z k ≡ fine w → m k ≡ true → rec w k ≡ v → told v ≡ Flaw e
-      → told (each rec m z n) ≡ Flaw e
+  pub each_flaw : (k n w : ℕ) (e : ValidationError) (v : Verdict) → k < n → each rec m z k ≡ fine w → m k ≡ true → rec w k ≡ v → told v ≡ Err e
+      → told (each rec m z n) ≡ Err e
   unfolding told
   each_flaw k n w e cycles h p b q f = rw (stays k n w cycles (λ g. refl) h p b q) f
   each_flaw k n w e mixed h p b q f = rw (stays k n w mixed (λ g. refl) h p b q) f
@@ -173,7 +172,7 @@ module _ (t : Table) (kind : ℕ → ℕ) where
   unfolding each root_step
   flawed k n w v a h e q = le_ind (λ (i : ℕ). Roots i ≡ v) (rw e q) (λ i l g. rw g (a _)) n h
 
-  pub roots_flaw : (k n w : ℕ) (e : ValidationError) (v : Verdict) → k < n → Roots k ≡ fine w → root_step t kind w k ≡ v → told v ≡ Flaw e → told (Roots n) ≡ Flaw e
+  pub roots_flaw : (k n w : ℕ) (e : ValidationError) (v : Verdict) → k < n → Roots k ≡ fine w → root_step t kind w k ≡ v → told v ≡ Err e → told (Roots n) ≡ Err e
   unfolding told
   roots_flaw k n w e cycles h p q f = rw (flawed k n w cycles (λ g. refl) h p q) f
   roots_flaw k n w e mixed h p q f = rw (flawed k n w mixed (λ g. refl) h p q) f
@@ -217,15 +216,15 @@ module _ (live seen : ℕ) where
 -- ---- the last tests
 
 module _ (parents : List ℕ) (live z k : ℕ) where
-  pub last_many : 1 < k → Fault MultipleNormalConnectedComponents ≡ found_fault (last_tests slot_count (table_in [] parents live) z k)
+  pub last_many : 1 < k → Err MultipleNormalConnectedComponents ≡ found_fault (last_tests slot_count (table_in [] parents live) z k)
   unfolding last_tests found_fault
   last_many h = rw (lt-ltb 1 k h)
 
-  pub last-cycles : k ≤ 1 → every (seen_in live z) slot_count ≡ false → Fault CyclesInTree ≡ found_fault (last_tests slot_count (table_in [] parents live) z k)
+  pub last-cycles : k ≤ 1 → every (seen_in live z) slot_count ≡ false → Err CyclesInTree ≡ found_fault (last_tests slot_count (table_in [] parents live) z k)
   unfolding last_tests found_fault table_in
   last-cycles h e = rw (le-ltb 1 k h, e)
 
-  pub last_valid : k ≤ 1 → every (seen_in live z) slot_count ≡ true → Valid ≡ found_fault (last_tests slot_count (table_in [] parents live) z k)
+  pub last_valid : k ≤ 1 → every (seen_in live z) slot_count ≡ true → (Ok tt) ≡ found_fault (last_tests slot_count (table_in [] parents live) z k)
   unfolding last_tests found_fault table_in
   last_valid h e = rw (le-ltb 1 k h, e)
 
@@ -237,13 +236,13 @@ unfolding table_in last_tests
 same_last children parents live z kind = refl
 
 module _ (t : Table) (kind : ℕ → ℕ) where
-  judged_flaw : (v : Verdict) (e : ValidationError) → told v ≡ Flaw e → Fault e ≡ found_fault (judge slot_count t v (count (normal_root t kind) slot_count))
+  judged_flaw : (v : Verdict) (e : ValidationError) → told v ≡ Err e → Err e ≡ found_fault (judge slot_count t v (count (normal_root t kind) slot_count))
   unfolding told judge found_fault
-  judged_flaw cycles e f = let q : e ≡ CyclesInTree = cc in ap Fault q
-  judged_flaw mixed e f = let q : e ≡ MixedContextTypeConnectedComponents = cc in ap Fault q
+  judged_flaw cycles e f = let q : e ≡ CyclesInTree = cc in ap Err q
+  judged_flaw mixed e f = let q : e ≡ MixedContextTypeConnectedComponents = cc in ap Err q
   judged_flaw (fine z) e f = absurd (let z : ◌≡◌ {A = ℕ} 0 1 = cc in omega arith)
 
-  pub found_flaw : (e : ValidationError) → told (search_roots slot_count t kind) ≡ Flaw e → Fault e ≡ found_fault (find_fault slot_count t kind)
+  pub found_flaw : (e : ValidationError) → told (search_roots slot_count t kind) ≡ Err e → Err e ≡ found_fault (find_fault slot_count t kind)
   unfolding find_fault
   found_flaw e f = judged_flaw (search_roots slot_count t kind) e f
 

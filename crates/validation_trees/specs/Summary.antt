@@ -1,5 +1,6 @@
 -- What the tests of the forest say of a table's summary: arrays and words of marks in place of the contexts. Assumes nothing: these are definitions.
-use Rattle.std.specs.Prelude.{Bool, false, cond, not, ◌||◌, List, [], ℕ}
+use Rattle.error.specs.declared.ValidationError.{ValidationError}
+use Rattle.std.specs.Prelude.{Bool, false, cond, not, ◌||◌, List, [], ℕ, Result, Ok, Err}
 use Rattle.error.specs.declared.ValidationError.TheVariants.{CyclesInTree, MixedContextTypeConnectedComponents}
 use Rattle.children.specs.Marks.{slot_count, marked}
 use Rattle.context.specs.Bytes.{byte_of}
@@ -7,8 +8,6 @@ use Rattle.forest.specs.Links.{Table, links_in}
 use Rattle.forest.specs.Search.{cycles, mixed, fine, visit, is_root}
 use Rattle.forest.specs.Search as search
 use Rattle.links.specs.Summary.{number_in}
-use Rattle.validation_trees.specs.declared.Search.{Search}
-use Rattle.validation_trees.specs.declared.Search.TheVariants.{Seen, Flaw}
 
 -- the number of a slot's type, by the marks of the simulations
 abbrev pub kind_in : ℕ → ℕ → ℕ
@@ -19,10 +18,10 @@ unfoldable pub table_in : List ℕ → List ℕ → ℕ → Table
 table_in children parents live = links_in slot_count (marked live) (λ i. false) (number_in parents) (number_in children)
 
 -- what the code answers for a search
-unfoldable pub told : search.Verdict → Search
-told cycles = Flaw CyclesInTree
-told mixed = Flaw MixedContextTypeConnectedComponents
-told (fine z) = Seen z
+unfoldable pub told : search.Verdict → Result ℕ ValidationError
+told cycles = Err CyclesInTree
+told mixed = Err MixedContextTypeConnectedComponents
+told (fine z) = Ok z
 
 -- the slot i where it is a root, after the slots z were seen
 unfoldable pub root_step : Table → (ℕ → ℕ) → ℕ → ℕ → search.Verdict

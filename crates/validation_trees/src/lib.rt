@@ -11,14 +11,6 @@ ghost use Rattle.validation_trees.specs.Summary.{table_in, kind_in, told, root_s
 use children::MAX_HANDLES;
 use context::u8bool;
 use error::ValidationError;
-use verdict::Verdict;
-
-// What a search answers: the slots seen so far, or why it ends.
-#[derive(Clone, Copy)]
-pub enum Search {
-    Seen(u64),
-    Flaw(ValidationError),
-}
 
 // The slots below a slot, all of the type `kind`. `seen` marks the slots met so far; `depth` falls.
 fn detect_invalid_subtree(
@@ -29,34 +21,34 @@ fn detect_invalid_subtree(
     seen: u64,
     slot: usize,
     depth: usize,
-) -> Search
+) -> Result<u64, ValidationError>
     requires { slot < slot_count }
     ensures { result ≡ told (visit slot_count (table_in children.now [] live) (kind_in simulations) kind depth seen slot) }
 {
     if depth == 0 {
-        return Search::Flaw(ValidationError::CyclesInTree);
+        return Err(ValidationError::CyclesInTree);
     }
     if children::has_child(seen, slot) {
-        return Search::Flaw(ValidationError::CyclesInTree);
+        return Err(ValidationError::CyclesInTree);
     }
     if !children::has_child(live, slot) {
-        return Search::Flaw(ValidationError::CyclesInTree);
+        return Err(ValidationError::CyclesInTree);
     }
     if u8bool::new(children::has_child(simulations, slot)) != kind {
-        return Search::Flaw(ValidationError::MixedContextTypeConnectedComponents);
+        return Err(ValidationError::MixedContextTypeConnectedComponents);
     }
     let mut met = children::with(seen, slot);
     let kids = children[slot];
     let mut k = children::next(kids, 0);
     while k < MAX_HANDLES {
         let w = detect_invalid_subtree(children, live, simulations, kind, met, k, depth - 1);
-        let Search::Seen(m) = w else {
+        let Ok(m) = w else {
             return w;
         };
         met = m;
         k = children::next(kids, k + 1);
     }
-    Search::Seen(met)
+    Ok(met)
 }
 
 // Whether a slot is live and has no parent.
@@ -75,12 +67,12 @@ fn root_step(
     simulations: u64,
     seen: u64,
     i: usize,
-) -> Search
+) -> Result<u64, ValidationError>
     requires { i < slot_count }
     ensures { result ≡ told (root_step (table_in children.now parents.now live) (kind_in simulations) seen i) }
 {
     if !is_root(parents, live, i) {
-        return Search::Seen(seen);
+        return Ok(seen);
     }
     let kind = u8bool::new(children::has_child(simulations, i));
     detect_invalid_subtree(children, live, simulations, kind, seen, i, MAX_HANDLES)
@@ -92,18 +84,18 @@ fn search_roots(
     parents: &[u8; MAX_HANDLES],
     live: u64,
     simulations: u64,
-) -> Search
+) -> Result<u64, ValidationError>
     ensures { result ≡ told (search_roots slot_count (table_in children.now parents.now live) (kind_in simulations)) }
 {
     let mut seen = children::empty();
     for i in 0..MAX_HANDLES {
         let w = root_step(children, parents, live, simulations, seen, i);
-        let Search::Seen(m) = w else {
+        let Ok(m) = w else {
             return w;
         };
         seen = m;
     }
-    Search::Seen(seen)
+    Ok(seen)
 }
 
 // How many roots are Normal.
@@ -127,16 +119,16 @@ fn all_seen(live: u64, seen: u64) -> bool
 }
 
 // What is left to test after the search.
-fn last_tests(parents: &[u8; MAX_HANDLES], live: u64, simulations: u64, seen: u64) -> Verdict
+fn last_tests(parents: &[u8; MAX_HANDLES], live: u64, simulations: u64, seen: u64) -> Result<(), ValidationError>
     ensures { result ≡ found_fault (last_tests slot_count (table_in [] parents.now live) seen (count (normal_root (table_in [] parents.now live) (kind_in simulations)) slot_count)) }
 {
     if normal_roots(parents, live, simulations) > 1 {
-        return Verdict::Fault(ValidationError::MultipleNormalConnectedComponents);
+        return Err(ValidationError::MultipleNormalConnectedComponents);
     }
     if !all_seen(live, seen) {
-        return Verdict::Fault(ValidationError::CyclesInTree);
+        return Err(ValidationError::CyclesInTree);
     }
-    Verdict::Valid
+    Ok(())
 }
 
 // The search from the roots, and then the last tests.
@@ -145,12 +137,12 @@ pub fn trees_test(
     parents: &[u8; MAX_HANDLES],
     live: u64,
     simulations: u64,
-) -> Verdict
+) -> Result<(), ValidationError>
     ensures { result ≡ found_fault (find_fault slot_count (table_in children.now parents.now live) (kind_in simulations)) }
 {
     let w = search_roots(children, parents, live, simulations);
     match w {
-        Search::Seen(seen) => last_tests(parents, live, simulations, seen),
-        Search::Flaw(e) => Verdict::Fault(e),
+        Ok(seen) => last_tests(parents, live, simulations, seen),
+        Err(e) => Err(e),
     }
 }

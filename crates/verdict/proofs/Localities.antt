@@ -1,4 +1,5 @@
 -- The tests of the localities find no fault just where an active default is alone in its locality. Assumes nothing.
+use Rattle.std.specs.Prelude.{Ok}
 use mathlib.Core.Path.{◌≡◌, refl, sym, ◌∙◌}
 use mathlib.Core.Logic.{◌≢◌, ◌↔◌, inl, inr}
 use mathlib.Core.Bool.{Bool, true, false}
@@ -14,7 +15,6 @@ use Rattle.context.specs.declared.Context.{Context}
 use Rattle.handle.specs.Handle.{is_default, default_handle}
 use Rattle.context.specs.Context.{is_active}
 use Rattle.context.proofs.Bytes.{same_iff}
-use Rattle.verdict.specs.declared.Verdict.TheVariants.{Valid}
 use Rattle.verdict.specs.Tests.{locality_at, default_at, other_at, within, mix_test, locality_of, localities_test, localities_of}
 use Rattle.verdict.specs.Rule.{Alone}
 use Rattle.verdict.proofs.Steps.{same, seq, test, all, eqb_iff, ltb_iff, and_iff, or-ne, not_iff}
@@ -24,12 +24,12 @@ active_iff Inactive = (λ e. clash e refl, λ e. absurd (let z : ◌≡◌ {A = 
 active_iff Active = (λ e. refl, λ e. refl)
 active_iff Retired = (λ e. clash e refl, λ e. absurd (let z : ◌≡◌ {A = ℕ} 0 1 = cc in omega arith))
 
-mix_iff : (d o : ℕ) → (mix_test d o ≡ Valid) ↔ ((d < 2) × (d ≢ 0 → o ≡ 0))
+mix_iff : (d o : ℕ) → (mix_test d o ≡ Ok tt) ↔ ((d < 2) × (d ≢ 0 → o ≡ 0))
 unfolding mix_test
 mix_iff d o = seq (test _ (ltb_iff d 2)) (test _ (or-ne d 0 (eqb_iff o 0)))
 
 locality_iff : (n : ℕ) (def oth : ℕ → Bool)
-    → (locality_of n def oth ≡ Valid) ↔ ((k : ℕ) → k < n → (count def (suc k) < 2) × (count def (suc k) ≢ 0 → count oth (suc k) ≡ 0))
+    → (locality_of n def oth ≡ Ok tt) ↔ ((k : ℕ) → k < n → (count def (suc k) < 2) × (count def (suc k) ≢ 0 → count oth (suc k) ≡ 0))
 unfolding locality_of
 locality_iff n def oth = all n (λ k h. mix_iff (count def (suc k)) (count oth (suc k)))
 
@@ -72,12 +72,12 @@ module _ (n : ℕ) (place : ℕ → ℕ) (def oth : ℕ → Bool) where
     ],
   )
 
-  tests_iff : (localities_test n place def oth ≡ Valid) ↔ ((j : ℕ) → j < n → (k : ℕ) → k < n → Counts (place j) k)
+  tests_iff : (localities_test n place def oth ≡ Ok tt) ↔ ((j : ℕ) → j < n → (k : ℕ) → k < n → Counts (place j) k)
   unfolding localities_test
   tests_iff = all n (λ j h. locality_iff n (within place def (place j)) (within place oth (place j)))
 
   -- then the tests find no fault
-  pub lone_valid : Lone → localities_test n place def oth ≡ Valid
+  pub lone_valid : Lone → localities_test n place def oth ≡ Ok tt
   lone_valid f = tests_iff.1 (λ j h. lone_counts f (place j))
 
 -- ---- where the contexts say it
@@ -126,5 +126,5 @@ module _ (n : ℕ) (s : ℕ → Context) where
         ],
       )
 
-  pub localities_iff : (localities_of n s ≡ Valid) ↔ Alone n s
+  pub localities_iff : (localities_of n s ≡ Ok tt) ↔ Alone n s
   localities_iff = (λ e. of_counts ((tests_iff n (locality_at s) (default_at s) (other_at s)).0 e), λ f. lone_valid n (locality_at s) (default_at s) (other_at s) (to-lone f))

@@ -1,4 +1,5 @@
 -- Which part of the validator a fault comes from, and the first fault of two where that is known. Assumes nothing.
+use Rattle.std.specs.Prelude.{Result, Ok, Err}
 use mathlib.Core.Path.{◌≡◌, refl, sym, ap, ◌∙◌}
 use mathlib.Core.Logic.{◌≢◌, ◌↔◌}
 use mathlib.Core.Bool.{Bool, true, false}
@@ -15,8 +16,6 @@ use Rattle.context.specs.declared.ContextState.TheVariants.{Inactive, Active, Re
 use Rattle.context.specs.declared.Context.{Context}
 use Rattle.forest.specs.Search.{Found, forest, mixed_types, many_normal, cyclic, find_fault}
 use Rattle.links.specs.Summary.{table_of}
-use Rattle.verdict.specs.declared.Verdict.{Verdict}
-use Rattle.verdict.specs.declared.Verdict.TheVariants.{Valid, Fault}
 use Rattle.verdict.specs.Tests.{Header, need, first, first_below, where_of, support_of, inactive_of, parent_test, child_test, links_test, state_of, context_of, slot_test, mix_test, locality_of, localities_test, localities_of, kind_at, found_fault, forest_of}
 use Rattle.verdict.specs.Refusals.{Part, the_marker, the_version, slots, localities, trees, nowhere, part_of}
 use Rattle.verdict.proofs.Steps.{fault_valid, below_iff}
@@ -35,8 +34,8 @@ pub apart : (p q : Part) → eqb (rank p) (rank q) ≡ false → p ≢ q
 apart p q f z = clash (eq-eqb _ _ (ap rank z)) f
 
 -- every fault of v comes from the part p
-abbrev pub From : Part → Verdict → Type 0
-From p v = (e : ValidationError) → v ≡ Fault e → part_of e ≡ p
+abbrev pub From : Part → Result Unit ValidationError → Type 0
+From p v = (e : ValidationError) → v ≡ Err e → part_of e ≡ p
 
 module _ {p : Part} where
   pub from-need : (b : Bool) (e : ValidationError) → part_of e ≡ p → From p (need b e)
@@ -44,17 +43,17 @@ module _ {p : Part} where
   from-need true e q e' f = fault_valid (sym f)
   from-need false e q e' f = let g : e' ≡ e = cc in ap part_of g ∙ q
 
-  from_first : {a b : Verdict} → From p a → From p b → From p (first a b)
+  from_first : {a b : Result Unit ValidationError} → From p a → From p b → From p (first a b)
   unfolding first
-  from_first {a = Valid} x y e f = y e f
-  from_first {a = Fault e'} x y e f = x e f
+  from_first {a = Ok tt} x y e f = y e f
+  from_first {a = Err e'} x y e f = x e f
 
-  from_where : (b : Bool) {v : Verdict} → From p v → From p (where_of b v)
+  from_where : (b : Bool) {v : Result Unit ValidationError} → From p v → From p (where_of b v)
   unfolding where_of
   from_where true x e f = x e f
   from_where false x e f = fault_valid (sym f)
 
-  from-below : {f : ℕ → Verdict} (n : ℕ) → ((i : ℕ) → From p (f i)) → From p (first_below f n)
+  from-below : {f : ℕ → Result Unit ValidationError} (n : ℕ) → ((i : ℕ) → From p (f i)) → From p (first_below f n)
   unfolding first_below
   from-below zero x e q = fault_valid (sym q)
   from-below (suc n) x e q = from_first (from-below n x) (x n) e q
@@ -65,7 +64,7 @@ from-links n live kids parent i = from_first
     (from_where _ (from_first (from-need _ _ refl) (from_first (from-need _ _ refl) (from-need _ _ refl))))
     (from-below mark_count (λ c. from_where _ (from_first (from-need _ _ refl) (from_first (from-need _ _ refl) (from-need _ _ refl)))))
 
-from_state : (k : ContextState) (n init : ℕ) (c : Context) (v : Verdict) → From slots v → From slots (state_of k n init c v)
+from_state : (k : ContextState) (n init : ℕ) (c : Context) (v : Result Unit ValidationError) → From slots v → From slots (state_of k n init c v)
 unfolding state_of inactive_of
 from_state Inactive n init c v x =
     from_first (from-need _ _ refl) (from_first (from-need _ _ refl) (from_first (from-need _ _ refl) (from-need _ _ refl)))
@@ -94,37 +93,37 @@ from-trees n s = found (find_fault n (table_of n s) (kind_at s))
 
 -- ---- the first fault of two, where it is known from which it comes
 
-pub not_from : {p q : Part} {v : Verdict} {e : ValidationError} → From q v → part_of e ≡ p → p ≢ q → v ≢ Fault e
+pub not_from : {p q : Part} {v : Result Unit ValidationError} {e : ValidationError} → From q v → part_of e ≡ p → p ≢ q → v ≢ Err e
 not_from x k ne f = ne (sym k ∙ x _ f)
 
-pub not_first : {a b : Verdict} {e : ValidationError} → a ≢ Fault e → b ≢ Fault e → first a b ≢ Fault e
+pub not_first : {a b : Result Unit ValidationError} {e : ValidationError} → a ≢ Err e → b ≢ Err e → first a b ≢ Err e
 unfolding first
-not_first {a = Valid} x y f = y f
-not_first {a = Fault e'} x y f = x f
+not_first {a = Ok tt} x y f = y f
+not_first {a = Err e'} x y f = x f
 
-pub here : {a b : Verdict} {e : ValidationError} → b ≢ Fault e → (first a b ≡ Fault e) ↔ (a ≡ Fault e)
+pub here : {a b : Result Unit ValidationError} {e : ValidationError} → b ≢ Err e → (first a b ≡ Err e) ↔ (a ≡ Err e)
 unfolding first
-here {a = Valid} {b} {e} y = (λ f. absurd (y f), λ f. fault_valid (sym f))
-here {a = Fault e'} {b} {e} y = (λ f. f, λ f. f)
+here {a = Ok tt} {b} {e} y = (λ f. absurd (y f), λ f. fault_valid (sym f))
+here {a = Err e'} {b} {e} y = (λ f. f, λ f. f)
 
-pub later : {a b : Verdict} {e : ValidationError} {A B : Type 0} → a ≢ Fault e → (a ≡ Valid) ↔ A → (b ≡ Fault e) ↔ B → (first a b ≡ Fault e) ↔ (A × B)
+pub later : {a b : Result Unit ValidationError} {e : ValidationError} {A B : Type 0} → a ≢ Err e → (a ≡ Ok tt) ↔ A → (b ≡ Err e) ↔ B → (first a b ≡ Err e) ↔ (A × B)
 unfolding first
-later {a = Valid} x p q = (λ f. (p.0 refl, q.0 f), λ r. q.1 r.1)
-later {a = Fault e'} x p q = (λ f. absurd (x f), λ r. fault_valid (p.1 r.0))
+later {a = Ok tt} x p q = (λ f. (p.0 refl, q.0 f), λ r. q.1 r.1)
+later {a = Err e'} x p q = (λ f. absurd (x f), λ r. fault_valid (p.1 r.0))
 
-pub need-fault : (b : Bool) (e : ValidationError) → (need b e ≡ Fault e) ↔ (b ≡ false)
+pub need-fault : (b : Bool) (e : ValidationError) → (need b e ≡ Err e) ↔ (b ≡ false)
 unfolding need
 need-fault true e = (λ f. fault_valid (sym f), λ f. clash refl f)
 need-fault false e = (λ f. refl, λ f. refl)
 
-pub below-fault : (f : ℕ → Verdict) (n : ℕ) (e : ValidationError) → first_below f n ≡ Fault e
-    → (i : ℕ) × (i < n) × ((j : ℕ) → j < i → f j ≡ Valid) × (f i ≡ Fault e)
+pub below-fault : (f : ℕ → Result Unit ValidationError) (n : ℕ) (e : ValidationError) → first_below f n ≡ Err e
+    → (i : ℕ) × (i < n) × ((j : ℕ) → j < i → f j ≡ Ok tt) × (f i ≡ Err e)
 unfolding first_below first
 below-fault f zero e q = fault_valid (sym q)
 below-fault f (suc n) e q = go (first_below f n) refl q (below-fault f n e)
   where
-    go : (v : Verdict) → first_below f n ≡ v → first v (f n) ≡ Fault e
-        → (first_below f n ≡ Fault e → (i : ℕ) × (i < n) × ((j : ℕ) → j < i → f j ≡ Valid) × (f i ≡ Fault e))
-        → (i : ℕ) × (i < suc n) × ((j : ℕ) → j < i → f j ≡ Valid) × (f i ≡ Fault e)
-    go Valid p r ih = (n, omega arith, (below_iff f n).0 p, r)
-    go (Fault e') p r ih = let k = ih (p ∙ r) in let lt = k.1 in (k.0, omega arith, k.2, k.3)
+    go : (v : Result Unit ValidationError) → first_below f n ≡ v → first v (f n) ≡ Err e
+        → (first_below f n ≡ Err e → (i : ℕ) × (i < n) × ((j : ℕ) → j < i → f j ≡ Ok tt) × (f i ≡ Err e))
+        → (i : ℕ) × (i < suc n) × ((j : ℕ) → j < i → f j ≡ Ok tt) × (f i ≡ Err e)
+    go (Ok tt) p r ih = (n, omega arith, (below_iff f n).0 p, r)
+    go (Err e') p r ih = let k = ih (p ∙ r) in let lt = k.1 in (k.0, omega arith, k.2, k.3)

@@ -1,4 +1,5 @@
 -- Each refusal is given exactly where document 01 says. Assumes nothing.
+use Rattle.std.specs.Prelude.{Err}
 use mathlib.Core.Path.{◌≡◌, refl, sym, ap, ◌∙◌}
 use mathlib.Core.Logic.{◌≢◌, ◌↔◌, inl, inr}
 use mathlib.Core.Bool.{true, false}
@@ -22,7 +23,6 @@ use Rattle.forest.specs.Search.{Found, is_root, normal_root, find_fault, Differ,
 use Rattle.forest.proofs.Search.{root_is, root-of-link}
 use Rattle.forest.proofs.Forest.{judged}
 use Rattle.links.specs.Summary.{table_of}
-use Rattle.verdict.specs.declared.Verdict.TheVariants.{Fault}
 use Rattle.verdict.specs.Tests.{Header, header_of, slot_test, locality_of, localities_test, kind_at, found_fault, forest_of, verdict, verdict_of}
 use Rattle.verdict.specs.Rule.{Live, OneNormal}
 use Rattle.verdict.specs.Refusals.{the_marker, the_version, slots, localities, trees, nowhere, part_of, FirstSlot, in_locality, up_to, FirstPlace, Earlier, Mixed, TwoNormal, Cyclic}
@@ -41,7 +41,7 @@ chain p q = (λ a. q.0 (p.0 a), λ c. p.1 (q.1 c))
 module _ (n : ℕ) (h : Header) (s : ℕ → Context) where
   -- ---- marker and version
 
-  pub marker_iff : (verdict n h s ≡ Fault InvalidMarker) ↔ (h.marker ≢ magic)
+  pub marker_iff : (verdict n h s ≡ Err InvalidMarker) ↔ (h.marker ≢ magic)
   unfolding verdict
   marker_iff = chain
       (here (not_first (not_from (from-need _ _ refl) refl (apart the_marker the_version refl))
@@ -49,7 +49,7 @@ module _ (n : ℕ) (h : Header) (s : ℕ → Context) where
       (not_first (not_from (from-localities n s) refl (apart the_marker localities refl)) (not_from (from-trees n s) refl (apart the_marker trees refl))))))
       (chain (need-fault _ _) (unlike h.marker magic))
 
-  pub version_iff : (verdict n h s ≡ Fault VersionMismatch) ↔ ((h.marker ≡ magic) × (h.version ≢ version_number))
+  pub version_iff : (verdict n h s ≡ Err VersionMismatch) ↔ ((h.marker ≡ magic) × (h.version ≢ version_number))
   unfolding verdict
   version_iff = later (not_from (from-need _ _ refl) refl (apart the_version the_marker refl)) (test _ (eqb_iff h.marker magic))
       (chain
@@ -60,7 +60,7 @@ module _ (n : ℕ) (h : Header) (s : ℕ → Context) where
   module _ (e : ValidationError) where
     -- ---- the slots
 
-    pub slot-fault_iff : part_of e ≡ slots → (verdict n h s ≡ Fault e) ↔ FirstSlot n h s e
+    pub slot-fault_iff : part_of e ≡ slots → (verdict n h s ≡ Err e) ↔ FirstSlot n h s e
     unfolding verdict
     slot-fault_iff k =
         let p = later (not_from (from-need _ _ refl) k (apart slots the_marker refl)) (test _ (eqb_iff h.marker magic))
@@ -89,7 +89,7 @@ module _ (n : ℕ) (h : Header) (s : ℕ → Context) where
 
     -- ---- the localities
 
-    pub locality-fault_iff : part_of e ≡ localities → (verdict n h s ≡ Fault e) ↔ FirstPlace n h s e
+    pub locality-fault_iff : part_of e ≡ localities → (verdict n h s ≡ Err e) ↔ FirstPlace n h s e
     unfolding verdict localities_test locality_of
     locality-fault_iff k =
         let p = later (not_from (from-need _ _ refl) k (apart localities the_marker refl)) (test _ (eqb_iff h.marker magic))
@@ -128,7 +128,7 @@ module _ (n : ℕ) (h : Header) (s : ℕ → Context) where
 
     -- ---- the trees
 
-    pub tree-fault_iff : part_of e ≡ trees → (verdict n h s ≡ Fault e) ↔ (Earlier n h s × (forest_of n s ≡ Fault e))
+    pub tree-fault_iff : part_of e ≡ trees → (verdict n h s ≡ Err e) ↔ (Earlier n h s × (forest_of n s ≡ Err e))
     unfolding verdict
     tree-fault_iff k =
         let p = later (not_from (from-need _ _ refl) k (apart trees the_marker refl)) (test _ (eqb_iff h.marker magic))
@@ -207,7 +207,7 @@ module _ (n : ℕ) (s : ℕ → Context) (L : Linked n (table_of n s)) where
   abbrev Finding : Found → Type 0
   Finding = Judged n (table_of n s) (kind_at s)
 
-  mixed-here : {f : Found} → Finding f → (found_fault f ≡ Fault MixedContextTypeConnectedComponents) ↔ Mixed n s
+  mixed-here : {f : Found} → Finding f → (found_fault f ≡ Err MixedContextTypeConnectedComponents) ↔ Mixed n s
   unfolding found_fault
   mixed-here (is-mixed d) = (λ e. differ_iff.0 d, λ m. refl)
   mixed-here (is_many none l) = (λ e. absurd (let z : ◌≡◌ {A = ℕ} 0 1 = cc in omega arith), λ m. absurd (none (differ_iff.1 m)))
@@ -220,14 +220,14 @@ module _ (n : ℕ) (s : ℕ → Context) (L : Linked n (table_of n s)) where
         (root_is (table_of n s) d.root d.root_is_one).0 d.below.1)),
   )
 
-  many-here : {f : Found} → Finding f → (found_fault f ≡ Fault MultipleNormalConnectedComponents) ↔ (¬ Mixed n s × TwoNormal n s)
+  many-here : {f : Found} → Finding f → (found_fault f ≡ Err MultipleNormalConnectedComponents) ↔ (¬ Mixed n s × TwoNormal n s)
   unfolding found_fault
   many-here (is-mixed d) = (λ e. absurd (let z : ◌≡◌ {A = ℕ} 0 1 = cc in omega arith), λ r. absurd (r.0 (differ_iff.0 d)))
   many-here (is_many none l) = (λ e. (λ m. none (differ_iff.1 m), many_iff.0 l), λ r. refl)
   many-here (is-cyclic none l q) = (λ e. absurd (let z : ◌≡◌ {A = ℕ} 0 1 = cc in omega arith), λ r. absurd (omega (arith, many_iff.1 r.1)))
   many-here (is-forest r) = (λ e. absurd (let z : ◌≡◌ {A = ℕ} 0 1 = cc in omega arith), λ w. absurd (omega (arith, r.one_normal, many_iff.1 w.1)))
 
-  cycles-here : {f : Found} → Finding f → (found_fault f ≡ Fault CyclesInTree) ↔ (¬ Mixed n s × (OneNormal n s × Cyclic n s))
+  cycles-here : {f : Found} → Finding f → (found_fault f ≡ Err CyclesInTree) ↔ (¬ Mixed n s × (OneNormal n s × Cyclic n s))
   unfolding found_fault
   cycles-here (is-mixed d) = (λ e. absurd (let z : ◌≡◌ {A = ℕ} 0 1 = cc in omega arith), λ r. absurd (r.0 (differ_iff.0 d)))
   cycles-here (is_many none l) = (λ e. absurd (let z : ◌≡◌ {A = ℕ} 0 1 = cc in omega arith), λ r. absurd (omega (arith, (normal_iff n s L).1 r.1.0)))
@@ -241,7 +241,7 @@ module _ (n : ℕ) (h : Header) (s : ℕ → Context) (few : n ≤ mark_count) w
   finding a = judged n (table_of n s) (linked n s h few a.sound) (kind_at s)
 
   -- where a slot below a root has another type than the root
-  pub mixed_types_iff : (verdict n h s ≡ Fault MixedContextTypeConnectedComponents) ↔ (Earlier n h s × Mixed n s)
+  pub mixed_types_iff : (verdict n h s ≡ Err MixedContextTypeConnectedComponents) ↔ (Earlier n h s × Mixed n s)
   unfolding forest_of
   mixed_types_iff =
       let p = tree-fault_iff n h s MixedContextTypeConnectedComponents refl in (
@@ -250,7 +250,7 @@ module _ (n : ℕ) (h : Header) (s : ℕ → Context) (few : n ≤ mark_count) w
       )
 
   -- where there is no such slot, and two Normal roots
-  pub many-normal_iff : (verdict n h s ≡ Fault MultipleNormalConnectedComponents) ↔ (Earlier n h s × (¬ Mixed n s × TwoNormal n s))
+  pub many-normal_iff : (verdict n h s ≡ Err MultipleNormalConnectedComponents) ↔ (Earlier n h s × (¬ Mixed n s × TwoNormal n s))
   unfolding forest_of
   many-normal_iff =
       let p = tree-fault_iff n h s MultipleNormalConnectedComponents refl in (
@@ -259,7 +259,7 @@ module _ (n : ℕ) (h : Header) (s : ℕ → Context) (few : n ≤ mark_count) w
       )
 
   -- where there is neither, and a live slot without a root
-  pub cycles_iff : (verdict n h s ≡ Fault CyclesInTree) ↔ (Earlier n h s × (¬ Mixed n s × (OneNormal n s × Cyclic n s)))
+  pub cycles_iff : (verdict n h s ≡ Err CyclesInTree) ↔ (Earlier n h s × (¬ Mixed n s × (OneNormal n s × Cyclic n s)))
   unfolding forest_of
   cycles_iff =
       let p = tree-fault_iff n h s CyclesInTree refl in (
@@ -270,7 +270,7 @@ module _ (n : ℕ) (h : Header) (s : ℕ → Context) (few : n ≤ mark_count) w
 -- ---- the refusals that are never given
 
 module _ (n : ℕ) (h : Header) (s : ℕ → Context) where
-  pub never : (e : ValidationError) → part_of e ≡ nowhere → verdict n h s ≢ Fault e
+  pub never : (e : ValidationError) → part_of e ≡ nowhere → verdict n h s ≢ Err e
   unfolding verdict
   never e k = not_first (not_from (from-need _ _ refl) k (apart nowhere the_marker refl))
       (not_first (not_from (from-need _ _ refl) k (apart nowhere the_version refl))
@@ -278,7 +278,7 @@ module _ (n : ℕ) (h : Header) (s : ℕ → Context) where
       (not_first (not_from (from-localities n s) k (apart nowhere localities refl))
       (not_from (from-trees n s) k (apart nowhere trees refl)))))
 
-pub never_given : (t : State) (e : ValidationError) → verdict_of t ≡ Fault e
+pub never_given : (t : State) (e : ValidationError) → verdict_of t ≡ Err e
     → (e ≢ ChildWithMultipleParents) × (e ≢ AllowCaNotSupported) × (e ≢ BadContextState) × (e ≢ BadContextType)
 never_given t e f =
     let no_part : part_of e ≢ nowhere = λ k. never slot_count (header_of t) (slot_of t.contexts) e k f in

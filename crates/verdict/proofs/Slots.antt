@@ -1,4 +1,5 @@
 -- The tests of one slot find no fault just where the slot is sound. Assumes nothing.
+use Rattle.std.specs.Prelude.{Ok}
 use mathlib.Core.Path.{◌≡◌, refl, ap}
 use mathlib.Core.Logic.{◌≢◌, ◌↔◌}
 use mathlib.Core.Bool.{Bool, true, false, not, ◌||◌}
@@ -21,7 +22,6 @@ use Rattle.context.specs.Bytes.{tci_size, is_on}
 use Rattle.context.specs.Context.{no_parent, zero_tci, is_live, is_normal}
 use Rattle.context.proofs.Bytes.{same_iff}
 use Rattle.links.specs.Summary.{parent_at, kids_at}
-use Rattle.verdict.specs.declared.Verdict.TheVariants.{Valid}
 use Rattle.verdict.specs.Tests.{Header, is_zero_tci, support_of, inactive_of, parent_test, child_test, links_test, links_at, has_child, state_of, context_of, slot_test}
 use Rattle.verdict.specs.Rule.{Supported, Idle, Tied, HasChild, InState, Sound}
 use Rattle.verdict.proofs.Steps.{same, seq, test, guard, all, eqb_iff, ltb_iff, ne_iff, and_iff, if_iff, not_iff}
@@ -70,7 +70,7 @@ neither : {a b : Bool} {A B : Type 0} → (a ≡ false) ↔ A → (b ≡ false) 
 neither {a = true} p q = (λ e. clash refl e, λ r. clash refl (p.1 r.0))
 neither {a = false} p q = (λ e. (p.0 refl, q.0 e), λ r. q.1 r.1)
 
-supported_iff : (h : Header) (c : Context) → (support_of h.support c ≡ Valid) ↔ Supported h c
+supported_iff : (h : Header) (c : Context) → (support_of h.support c ≡ Ok tt) ↔ Supported h c
 unfolding support_of
 supported_iff h c =
     let p = seq (test _ (or-normal c.context_type))
@@ -81,7 +81,7 @@ supported_iff h c =
       λ r. p.1 (r.simulation, (r.dice, (r.info, r.x509))),
     )
 
-idle_iff : (c : Context) → (inactive_of c ≡ Valid) ↔ Idle c
+idle_iff : (c : Context) → (inactive_of c ≡ Ok tt) ↔ Idle c
 unfolding inactive_of
 idle_iff c =
     let p = seq (test _ (eqb_iff c.parent_idx no_parent))
@@ -100,7 +100,7 @@ idle_iff c =
       λ r. p.1 (r.parent, (r.children, (r.tci, ((r.dice, r.x509), r.info)))),
     )
 
-tied_iff : (n : ℕ) (s : ℕ → Context) (i : ℕ) → (links_at n s i ≡ Valid) ↔ Tied n s i
+tied_iff : (n : ℕ) (s : ℕ → Context) (i : ℕ) → (links_at n s i ≡ Ok tt) ↔ Tied n s i
 unfolding links_test parent_test child_test
 tied_iff n s i =
     let p = seq
@@ -126,13 +126,13 @@ child_iff n c =
     )
 
 state_iff : (x : ContextState) (n : ℕ) (h : Header) (s : ℕ → Context) (i : ℕ)
-    → (state_of x n h.initialized (s i) (links_at n s i) ≡ Valid) ↔ InState x n h s i
+    → (state_of x n h.initialized (s i) (links_at n s i) ≡ Ok tt) ↔ InState x n h s i
 unfolding state_of
 state_iff Inactive n h s i = idle_iff (s i)
 state_iff Active n h s i = seq (test _ (if_iff (normal_iff (s i).context_type) (ne_iff h.initialized 0))) (tied_iff n s i)
 state_iff Retired n h s i = seq (tied_iff n s i) (test _ (child_iff n (s i)))
 
-pub sound_iff : (n : ℕ) (h : Header) (s : ℕ → Context) (i : ℕ) → (slot_test n h s i ≡ Valid) ↔ Sound n h s i
+pub sound_iff : (n : ℕ) (h : Header) (s : ℕ → Context) (i : ℕ) → (slot_test n h s i ≡ Ok tt) ↔ Sound n h s i
 unfolding context_of
 sound_iff n h s i =
     let p = seq (supported_iff h (s i)) (seq (state_iff (s i).state n h s i) (test _ (eqb_iff (s i).locality (s i).tci.locality))) in (

@@ -1,4 +1,5 @@
 -- A run of tests: one law for each way out of it, and what its answer says of each test. Assumes nothing.
+use Rattle.std.specs.Prelude.{Result, Ok, Err}
 use mathlib.Core.Path.{◌≡◌, refl, ap₂}
 use mathlib.Core.Logic.{◌≢◌, ◌↔◌}
 use mathlib.Core.Bool.{Bool, true, false, not, ◌&&◌, ◌||◌}
@@ -10,54 +11,52 @@ use lib.Dec.{eqb, ltb}
 use borrow.Author.Tests.{lt-ltb, eq-eqb, ne_eqb}
 use Rattle.error.specs.declared.ValidationError.{ValidationError}
 use Rattle.children.proofs.Cases.{clash, eqb-true, ltb-true}
-use Rattle.verdict.specs.declared.Verdict.{Verdict}
-use Rattle.verdict.specs.declared.Verdict.TheVariants.{Valid, Fault}
 use Rattle.verdict.specs.Tests.{need, first, first_below, where_of}
 
-pub fault_valid : {A : Type 0} {e : ValidationError} → Fault e ≡ Valid → A
+pub fault_valid : {A : Type 0} {e : ValidationError} → Err e ≡ Ok tt → A
 fault_valid {A} {e} q = absurd (let z : ◌≡◌ {A = ℕ} 0 1 = cc in omega arith)
 
 -- ---- one law for each way out
 
-pub need_on : (b : Bool) (e : ValidationError) → b ≡ true → need b e ≡ Valid
+pub need_on : (b : Bool) (e : ValidationError) → b ≡ true → need b e ≡ Ok tt
 unfolding need
 need_on b e p = rw p
 
-pub need_off : (b : Bool) (e : ValidationError) → b ≡ false → need b e ≡ Fault e
+pub need_off : (b : Bool) (e : ValidationError) → b ≡ false → need b e ≡ Err e
 unfolding need
 need_off b e p = rw p
 
-pub onward : (a v : Verdict) → a ≡ Valid → first a v ≡ v
+pub onward : (a v : Result Unit ValidationError) → a ≡ Ok tt → first a v ≡ v
 unfolding first
 onward a v p = rw p
 
-pub halt : (a v : Verdict) (e : ValidationError) → a ≡ Fault e → first a v ≡ Fault e
+pub halt : (a v : Result Unit ValidationError) (e : ValidationError) → a ≡ Err e → first a v ≡ Err e
 unfolding first
 halt a v e p = rw p
 
-pub pass : (b : Bool) (e : ValidationError) (v : Verdict) → b ≡ true → first (need b e) v ≡ v
+pub pass : (b : Bool) (e : ValidationError) (v : Result Unit ValidationError) → b ≡ true → first (need b e) v ≡ v
 pass b e v p = onward (need b e) v (need_on b e p)
 
-pub stop : (b : Bool) (e : ValidationError) (v : Verdict) → b ≡ false → first (need b e) v ≡ Fault e
+pub stop : (b : Bool) (e : ValidationError) (v : Result Unit ValidationError) → b ≡ false → first (need b e) v ≡ Err e
 stop b e v p = halt (need b e) v e (need_off b e p)
 
-pub where_on : (b : Bool) (v : Verdict) → b ≡ true → where_of b v ≡ v
+pub where_on : (b : Bool) (v : Result Unit ValidationError) → b ≡ true → where_of b v ≡ v
 unfolding where_of
 where_on b v p = rw p
 
-pub where_off : (b : Bool) (v : Verdict) → b ≡ false → where_of b v ≡ Valid
+pub where_off : (b : Bool) (v : Result Unit ValidationError) → b ≡ false → where_of b v ≡ Ok tt
 unfolding where_of
 where_off b v p = rw p
 
-pub below_more : (f : ℕ → Verdict) (k : ℕ) → first_below f k ≡ Valid → f k ≡ Valid → first_below f (k + 1) ≡ Valid
+pub below_more : (f : ℕ → Result Unit ValidationError) (k : ℕ) → first_below f k ≡ Ok tt → f k ≡ Ok tt → first_below f (k + 1) ≡ Ok tt
 unfolding first_below first
 below_more f k e g = rw (add-one, first_below, e, g)
 
-pub below_stop : (f : ℕ → Verdict) (k n : ℕ) (e : ValidationError) → k < n → first_below f k ≡ Valid → f k ≡ Fault e → first_below f n ≡ Fault e
+pub below_stop : (f : ℕ → Result Unit ValidationError) (k n : ℕ) (e : ValidationError) → k < n → first_below f k ≡ Ok tt → f k ≡ Err e → first_below f n ≡ Err e
 unfolding first_below first
-below_stop f k n e h p q = le_ind (λ (i : ℕ). first_below f i ≡ Fault e) (rw (p, q)) (λ i l g. rw g) n h
+below_stop f k n e h p q = le_ind (λ (i : ℕ). first_below f i ≡ Err e) (rw (p, q)) (λ i l g. rw g) n h
 
-pub below_same : (f g : ℕ → Verdict) (n : ℕ) → ((i : ℕ) → i < n → f i ≡ g i) → first_below f n ≡ first_below g n
+pub below_same : (f g : ℕ → Result Unit ValidationError) (n : ℕ) → ((i : ℕ) → i < n → f i ≡ g i) → first_below f n ≡ first_below g n
 unfolding first_below
 below_same f g zero h = refl
 below_same f g (suc n) h = ap₂ first (below_same f g n (λ i l. h i (omega arith))) (h n (omega arith))
@@ -67,28 +66,28 @@ below_same f g (suc n) h = ap₂ first (below_same f g n (λ i l. h i (omega ari
 pub same : {A : Type 0} → A ↔ A
 same = (λ a. a, λ a. a)
 
-first_iff : (a b : Verdict) → (first a b ≡ Valid) ↔ ((a ≡ Valid) × (b ≡ Valid))
+first_iff : (a b : Result Unit ValidationError) → (first a b ≡ Ok tt) ↔ ((a ≡ Ok tt) × (b ≡ Ok tt))
 unfolding first
-first_iff Valid b = (λ e. (refl, e), λ p. p.1)
-first_iff (Fault e) b = (λ q. fault_valid q, λ p. fault_valid p.0)
+first_iff (Ok tt) b = (λ e. (refl, e), λ p. p.1)
+first_iff (Err e) b = (λ q. fault_valid q, λ p. fault_valid p.0)
 
-pub seq : {a b : Verdict} {A B : Type 0} → (a ≡ Valid) ↔ A → (b ≡ Valid) ↔ B → (first a b ≡ Valid) ↔ (A × B)
+pub seq : {a b : Result Unit ValidationError} {A B : Type 0} → (a ≡ Ok tt) ↔ A → (b ≡ Ok tt) ↔ B → (first a b ≡ Ok tt) ↔ (A × B)
 seq {a} {b} p q = (λ e. let r = (first_iff a b).0 e in (p.0 r.0, q.0 r.1), λ r. (first_iff a b).1 (p.1 r.0, q.1 r.1))
 
-need_iff : (b : Bool) (e : ValidationError) → (need b e ≡ Valid) ↔ (b ≡ true)
+need_iff : (b : Bool) (e : ValidationError) → (need b e ≡ Ok tt) ↔ (b ≡ true)
 unfolding need
 need_iff true e = (λ q. refl, λ q. refl)
 need_iff false e = (λ q. fault_valid q, λ q. clash q refl)
 
-pub test : {b : Bool} {A : Type 0} (e : ValidationError) → (b ≡ true) ↔ A → (need b e ≡ Valid) ↔ A
+pub test : {b : Bool} {A : Type 0} (e : ValidationError) → (b ≡ true) ↔ A → (need b e ≡ Ok tt) ↔ A
 test {b} e p = (λ q. p.0 ((need_iff b e).0 q), λ a. (need_iff b e).1 (p.1 a))
 
-pub guard : (b : Bool) {v : Verdict} {A B : Type 0} → (b ≡ true) ↔ A → (v ≡ Valid) ↔ B → (where_of b v ≡ Valid) ↔ (A → B)
+pub guard : (b : Bool) {v : Result Unit ValidationError} {A B : Type 0} → (b ≡ true) ↔ A → (v ≡ Ok tt) ↔ B → (where_of b v ≡ Ok tt) ↔ (A → B)
 unfolding where_of
 guard true p q = (λ e a. q.0 e, λ f. q.1 (f (p.0 refl)))
 guard false p q = (λ e a. clash (p.1 a) refl, λ f. refl)
 
-pub below_iff : (f : ℕ → Verdict) (n : ℕ) → (first_below f n ≡ Valid) ↔ ((i : ℕ) → i < n → f i ≡ Valid)
+pub below_iff : (f : ℕ → Result Unit ValidationError) (n : ℕ) → (first_below f n ≡ Ok tt) ↔ ((i : ℕ) → i < n → f i ≡ Ok tt)
 unfolding first_below
 below_iff f zero = (λ e i h. absurd (omega arith), λ g. refl)
 below_iff f (suc n) = (
@@ -98,7 +97,7 @@ below_iff f (suc n) = (
   λ g. (first_iff (first_below f n) (f n)).1 ((below_iff f n).1 (λ i h. g i (omega arith)), g n (omega arith)),
 )
 
-pub all : {f : ℕ → Verdict} {A : ℕ → Type 0} (n : ℕ) → ((i : ℕ) → i < n → (f i ≡ Valid) ↔ A i) → (first_below f n ≡ Valid) ↔ ((i : ℕ) → i < n → A i)
+pub all : {f : ℕ → Result Unit ValidationError} {A : ℕ → Type 0} (n : ℕ) → ((i : ℕ) → i < n → (f i ≡ Ok tt) ↔ A i) → (first_below f n ≡ Ok tt) ↔ ((i : ℕ) → i < n → A i)
 all {f} n p = (λ e i h. (p i h).0 ((below_iff f n).0 e i h), λ g. (below_iff f n).1 (λ i h. (p i h).1 (g i h)))
 
 -- ---- tests, and what they say

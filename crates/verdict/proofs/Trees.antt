@@ -1,4 +1,5 @@
 -- The links of a table whose slots are sound, and the tests of the forest. Assumes nothing.
+use Rattle.std.specs.Prelude.{Ok}
 use mathlib.Core.Path.{◌≡◌, refl, sym, ap, ◌∙◌}
 use mathlib.Core.Logic.{◌≢◌, ◌↔◌, inl, inr}
 use mathlib.Core.Bool.{true, false, not}
@@ -26,7 +27,6 @@ use Rattle.forest.proofs.Slots.{Tests, linked_iff_tests}
 use Rattle.forest.proofs.Forest.{forest_iff}
 use Rattle.links.specs.Summary.{parent_at, table_of, steps_up}
 use Rattle.links.proofs.Tables.{frame-of}
-use Rattle.verdict.specs.declared.Verdict.TheVariants.{Valid}
 use Rattle.verdict.specs.Tests.{Header, kind_at, found_fault, forest_of}
 use Rattle.verdict.specs.Rule.{Idle, Live, Tied, InState, Sound, NormalRoot, ancestor, Alike, OneNormal, HasRoot}
 use Rattle.verdict.specs.Refusals.{Under}
@@ -56,7 +56,7 @@ same_type Simulation Normal e = absurd (omega arith)
 pub kind_iff : (s : ℕ → Context) (i j : ℕ) → (kind_at s i ≡ kind_at s j) ↔ ((s i).context_type ≡ (s j).context_type)
 kind_iff s i j = (same_type (s i).context_type (s j).context_type, ap number_of)
 
-found_iff : (f : Found) → (found_fault f ≡ Valid) ↔ (f ≡ forest)
+found_iff : (f : Found) → (found_fault f ≡ Ok tt) ↔ (f ≡ forest)
 unfolding found_fault
 found_iff forest = (λ e. refl, λ e. refl)
 found_iff mixed_types = (λ e. fault_valid e, λ e. absurd (let z : ◌≡◌ {A = ℕ} 0 1 = cc in omega arith))
@@ -211,7 +211,7 @@ module _ (n : ℕ) (s : ℕ → Context) where
       λ f. count-le-one (normal_root (table_of n s) (kind_at s)) n (λ i j a b. f i j ((normal-root_iff i).0 a) ((normal-root_iff j).0 b)),
     )
 
-    pub forest_of_iff : (forest_of n s ≡ Valid) ↔ (Alike n s × (OneNormal n s × ((i : ℕ) → Live n s i → HasRoot n s i)))
+    pub forest_of_iff : (forest_of n s ≡ Ok tt) ↔ (Alike n s × (OneNormal n s × ((i : ℕ) → Live n s i → HasRoot n s i)))
     unfolding forest_of
     forest_of_iff =
         let p = forest_iff n (table_of n s) L (kind_at s) in (

@@ -1,4 +1,5 @@
 -- The verdict is a yes just where the forest rule holds. Assumes nothing.
+use Rattle.std.specs.Prelude.{Ok}
 use mathlib.Core.Path.{◌≡◌}
 use mathlib.Core.Logic.{◌↔◌}
 use Prim.Native.Nat.{ℕ, ◌≤◌}
@@ -8,7 +9,6 @@ use Rattle.context.specs.declared.Context.{Context}
 use Rattle.table.specs.declared.state.State.{State}
 use Rattle.context.specs.Context.{slot_of}
 use Rattle.table.specs.State.{magic, version_number}
-use Rattle.verdict.specs.declared.Verdict.TheVariants.{Valid}
 use Rattle.verdict.specs.Tests.{Header, header_of, verdict, verdict_of}
 use Rattle.verdict.specs.Rule.{ForestRule, Forest}
 use Rattle.verdict.proofs.Steps.{same, seq, test, all, eqb_iff}
@@ -17,7 +17,7 @@ use Rattle.verdict.proofs.Localities.{localities_iff}
 use Rattle.verdict.proofs.Trees.{linked, forest_of_iff}
 
 -- for any number of slots up to 64
-pub verdict_iff : (n : ℕ) (h : Header) (s : ℕ → Context) → n ≤ mark_count → (verdict n h s ≡ Valid) ↔ ForestRule n h s
+pub verdict_iff : (n : ℕ) (h : Header) (s : ℕ → Context) → n ≤ mark_count → (verdict n h s ≡ Ok tt) ↔ ForestRule n h s
 unfolding verdict
 verdict_iff n h s few =
     let p = seq (test _ (eqb_iff h.marker magic)) (seq (test _ (eqb_iff h.version version_number))
@@ -39,5 +39,5 @@ verdict_iff n h s few =
     )
 
 -- for a table
-pub yes_iff : (t : State) → (verdict_of t ≡ Valid) ↔ Forest t
+pub yes_iff : (t : State) → (verdict_of t ≡ Ok tt) ↔ Forest t
 yes_iff t = verdict_iff slot_count (header_of t) (slot_of t.contexts) (omega arith)

@@ -1,13 +1,11 @@
 -- Where each refusal is given, in document 01's words and in the rule's. Assumes nothing: these are definitions.
-use Rattle.std.specs.Prelude.{◌≡◌, ◌≢◌, ℕ, suc, ◌<◌}
+use Rattle.std.specs.Prelude.{◌≡◌, ◌≢◌, ℕ, suc, ◌<◌, Result, Ok, Err}
 use Rattle.error.specs.declared.ValidationError.{ValidationError}
 use Rattle.error.specs.declared.ValidationError.TheVariants.{MultipleNormalConnectedComponents, CyclesInTree, InactiveContextInvalidParent, InactiveContextWithChildren, BadContextState, BadContextType, InactiveContextWithMeasurement, MixedContextLocality, MultipleDefaultContexts, SimulationNotSupported, ParentDoesNotExist, InternalDiceNotSupported, InternalInfoNotSupported, ChildDoesNotExist, InactiveContextWithFlagSet, LocalityMismatch, DanglingRetiredContext, MixedContextTypeConnectedComponents, ChildWithMultipleParents, ParentChildLinksCorrupted, AllowCaNotSupported, AllowX509NotSupported, InactiveParent, InactiveChild, DpeNotMarkedInitialized, InvalidMarker, VersionMismatch}
 use Rattle.children.specs.Below.{count}
 use Rattle.context.specs.declared.Context.{Context}
 use Rattle.context.specs.Context.{no_parent}
 use Rattle.table.specs.State.{magic, version_number}
-use Rattle.verdict.specs.declared.Verdict.{Verdict}
-use Rattle.verdict.specs.declared.Verdict.TheVariants.{Valid, Fault}
 use Rattle.verdict.specs.Tests.{Header, slot_test, locality_at, default_at, other_at, within, mix_test, locality_of}
 use Rattle.verdict.specs.Rule.{Sound, Live, NormalRoot, ancestor, Alone, HasRoot}
 
@@ -57,14 +55,14 @@ pub record FirstSlot (n : ℕ) (h : Header) (s : ℕ → Context) (e : Validatio
   pub at : ℕ
   pub slot : at < n
   pub before : (j : ℕ) → j < at → Sound n h s j
-  pub fails : slot_test n h s at ≡ Fault e
+  pub fails : slot_test n h s at ≡ Err e
 
 -- the test of the locality l up to the slot k
-abbrev pub up_to : (ℕ → Context) → ℕ → ℕ → Verdict
+abbrev pub up_to : (ℕ → Context) → ℕ → ℕ → Result Unit ValidationError
 up_to s l k = mix_test (count (within (locality_at s) (default_at s) l) (suc k)) (count (within (locality_at s) (other_at s) l) (suc k))
 
 -- all tests of the locality l
-abbrev pub in_locality : ℕ → (ℕ → Context) → ℕ → Verdict
+abbrev pub in_locality : ℕ → (ℕ → Context) → ℕ → Result Unit ValidationError
 in_locality n s l = locality_of n (within (locality_at s) (default_at s) l) (within (locality_at s) (other_at s) l)
 
 -- the slot `at` that gives e within the first locality at fault, which is that of the slot `of`
@@ -74,11 +72,11 @@ pub record FirstPlace (n : ℕ) (h : Header) (s : ℕ → Context) (e : Validati
   pub sound : (i : ℕ) → i < n → Sound n h s i
   pub of : ℕ
   pub slot : of < n
-  pub others : (j : ℕ) → j < of → in_locality n s (s j).locality ≡ Valid
+  pub others : (j : ℕ) → j < of → in_locality n s (s j).locality ≡ Ok tt
   pub at : ℕ
   pub place : at < n
-  pub before : (k : ℕ) → k < at → up_to s (s of).locality k ≡ Valid
-  pub fails : up_to s (s of).locality at ≡ Fault e
+  pub before : (k : ℕ) → k < at → up_to s (s of).locality k ≡ Ok tt
+  pub fails : up_to s (s of).locality at ≡ Err e
 
 -- all tests before those of the trees hold
 pub record Earlier (n : ℕ) (h : Header) (s : ℕ → Context) : Type 0 where

@@ -4,21 +4,14 @@
 ghost use Rattle.std.specs.Prelude.{◌≡◌};
 ghost use Rattle.verdict.specs.Tests.{outcome_of};
 
-use error::{DpeErrorCode, Outcome, ValidationError};
-
-// A yes, or the first test that fails.
-#[derive(Clone, Copy)]
-pub enum Verdict {
-    Valid,
-    Fault(ValidationError),
-}
+use error::{DpeErrorCode, ValidationError};
 
 // How a call ends that answers the verdict.
-pub fn outcome(v: Verdict) -> Outcome
+pub fn outcome(v: Result<(), ValidationError>) -> Result<(), DpeErrorCode>
     ensures { result ≡ outcome_of v }
 {
     match v {
-        Verdict::Valid => Outcome::Done,
-        Verdict::Fault(e) => Outcome::Refused(DpeErrorCode::Validation(e)),
+        Ok(()) => Ok(()),
+        Err(e) => Err(DpeErrorCode::Validation(e)),
     }
 }

@@ -1,4 +1,5 @@
 -- How the walk down goes on, from mark to mark, and what is told of it. Assumes nothing.
+use Rattle.std.specs.Prelude.{Ok, Err}
 use mathlib.Core.Bool.{Bool, true, false, cond}
 use mathlib.Core.Logic.{inl, inr}
 use mathlib.Core.Path.{◌≡◌, refl, sym, ap, ◌∙◌}
@@ -7,7 +8,6 @@ use native.Mathlib.Decide.{ℕ_discrete, le_ind}
 use native.Mathlib.Numerals.{add-one}
 use native.Mathlib.Omega.{arith}
 use Rattle.error.specs.declared.DpeErrorCode.{DpeErrorCode}
-use Rattle.children.specs.declared.Answer.TheVariants.{Marks, Refused}
 use Rattle.children.specs.Below.{lowest_from}
 use Rattle.children.specs.Marks.{marked, with, joined, next_below}
 use Rattle.children.proofs.Below.{low_ge, low-le, low_bare}
@@ -18,7 +18,7 @@ use Rattle.forest.specs.Told.{told_of}
 
 -- ---- what is told
 
-pub told-marks : (e : DpeErrorCode) (a : Answer) (w : ℕ) → told_of e a ≡ Marks w → a ≡ ok w
+pub told-marks : (e : DpeErrorCode) (a : Answer) (w : ℕ) → told_of e a ≡ Ok w → a ≡ ok w
 unfolding told_of
 told-marks e loops w q = absurd (let z : ◌≡◌ {A = ℕ} 0 1 = cc in omega arith)
 told-marks e bad w q = absurd (let z : ◌≡◌ {A = ℕ} 0 1 = cc in omega arith)
@@ -45,15 +45,15 @@ module _ (rec : ℕ → Answer) (m : ℕ) where
   over-bad : (k n f : ℕ) → k < n → over rec m k ≡ ok f → marked m k ≡ true → rec k ≡ bad → over rec m n ≡ bad
   over-bad k n f h e b g = stopped bad (λ x. refl) (k + 1) n (over_step k ∙ rw (b, e, g)) (omega arith)
 
-  refused_by_lem : (a : Answer) (e r : DpeErrorCode) → told_of e a ≡ Refused r → (k n f : ℕ) → k < n → over rec m k ≡ ok f → marked m k ≡ true → rec k ≡ a
-      → told_of e (over rec m n) ≡ Refused r
+  refused_by_lem : (a : Answer) (e r : DpeErrorCode) → told_of e a ≡ Err r → (k n f : ℕ) → k < n → over rec m k ≡ ok f → marked m k ≡ true → rec k ≡ a
+      → told_of e (over rec m n) ≡ Err r
   unfolding told_of
   refused_by_lem loops e r q k n f h i b g = ap (told_of e) (over-loops k n f h i b g) ∙ q
   refused_by_lem bad e r q k n f h i b g = ap (told_of e) (over-bad k n f h i b g) ∙ q
   refused_by_lem (ok w) e r q k n f h i b g = absurd (let z : ◌≡◌ {A = ℕ} 0 1 = cc in omega arith)
 
-  pub over_refused : (e r : DpeErrorCode) (k n f : ℕ) → k < n → over rec m k ≡ ok f → marked m k ≡ true → told_of e (rec k) ≡ Refused r
-      → told_of e (over rec m n) ≡ Refused r
+  pub over_refused : (e r : DpeErrorCode) (k n f : ℕ) → k < n → over rec m k ≡ ok f → marked m k ≡ true → told_of e (rec k) ≡ Err r
+      → told_of e (over rec m n) ≡ Err r
   over_refused e r k n f h i b q = refused_by_lem (rec k) e r q k n f h i b refl
 
   -- numbers that are not marked are passed over

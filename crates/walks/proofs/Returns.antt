@@ -1,5 +1,6 @@
 -- The Rust's walk down has no path and no bound. For every table, damaged ones included: WalkLoops is answered exactly where that walk returns at
 -- no number of steps, and every other answer is its own. Assumes nothing.
+use Rattle.std.specs.Prelude.{Err}
 use mathlib.Core.Logic.{◌≢◌, ◌↔◌}
 use mathlib.Core.Path.{◌≡◌, sym, ap, ◌∙◌}
 use Prim.Native.Nat.{ℕ, ◌+◌, ◌<◌}
@@ -7,7 +8,6 @@ use native.Mathlib.Omega.{arith}
 use borrow.Author.Tests.{lt-ltb}
 use Rattle.error.specs.declared.DpeErrorCode.TheVariants.{InvalidHandle, Added}
 use Rattle.error.specs.declared.AddedErrorCode.TheVariants.{WalkLoops}
-use Rattle.children.specs.declared.Answer.TheVariants.{Refused}
 use Rattle.context.specs.declared.Context.{Context}
 use Rattle.forest.specs.Walk.{loops, walk_down, rust_down}
 use Rattle.forest.specs.Told.{told_of}
@@ -24,7 +24,7 @@ module _ (n : ℕ) (s : ℕ → Context) (slot : ℕ) (h : slot < n) where
   unfolding descendants_in
   inside = rw (lt-ltb slot n h)
 
-  pub descendants_loop : (descendants_in n s slot ≡ Refused (Added WalkLoops)) ↔ ((fuel : ℕ) → rust_down n (live_at s) (kids_at s) fuel slot ≡ loops)
+  pub descendants_loop : (descendants_in n s slot ≡ Err (Added WalkLoops)) ↔ ((fuel : ℕ) → rust_down n (live_at s) (kids_at s) fuel slot ≡ loops)
   descendants_loop =
       let t = told-loops InvalidHandle handle-apart (walk_down n (live_at s) (kids_at s) n 0 slot) in
       let r = loops_iff_never n (live_at s) (kids_at s) slot h in

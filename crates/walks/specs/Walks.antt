@@ -1,24 +1,22 @@
 -- The descendants of a slot, as the calls answer them. The walk itself stands in forest/specs. Assumes nothing.
-use Rattle.std.specs.Prelude.{Bool, cond, ℕ, ltb}
+use Rattle.std.specs.Prelude.{Bool, cond, ℕ, ltb, Result, Ok, Err}
 use Rattle.error.specs.declared.DpeErrorCode.{DpeErrorCode}
 use Rattle.error.specs.declared.DpeErrorCode.TheVariants.{InternalError, InvalidHandle}
 use Rattle.error.specs.declared.InternalErrorCode.TheVariants.{ContextIndexOob}
-use Rattle.children.specs.declared.Answer.{Answer}
-use Rattle.children.specs.declared.Answer.TheVariants.{Marks, Refused}
 use Rattle.context.specs.declared.Context.{Context}
 use Rattle.forest.specs.Walk.{walk_down}
 use Rattle.forest.specs.Told.{told_of}
 use Rattle.links.specs.Summary.{live_at, kids_at}
 
 -- the walk down from a slot
-abbrev pub down_from : ℕ → (ℕ → Bool) → (ℕ → ℕ) → ℕ → Answer
+abbrev pub down_from : ℕ → (ℕ → Bool) → (ℕ → ℕ) → ℕ → Result ℕ DpeErrorCode
 down_from n live kids slot = told_of InvalidHandle (walk_down n live kids n 0 slot)
 
 -- the descendants of a slot
-unfoldable pub descendants_in : ℕ → (ℕ → Context) → ℕ → Answer
-descendants_in n s slot = cond (ltb slot n) (down_from n (live_at s) (kids_at s) slot) (Refused (InternalError ContextIndexOob))
+unfoldable pub descendants_in : ℕ → (ℕ → Context) → ℕ → Result ℕ DpeErrorCode
+descendants_in n s slot = cond (ltb slot n) (down_from n (live_at s) (kids_at s) slot) (Err (InternalError ContextIndexOob))
 
 -- the refusal of an answer; marks have none, and are not asked
-abbrev pub why_of : Answer → DpeErrorCode
-why_of (Marks m) = InvalidHandle
-why_of (Refused e) = e
+abbrev pub why_of : Result ℕ DpeErrorCode → DpeErrorCode
+why_of (Ok m) = InvalidHandle
+why_of (Err e) = e

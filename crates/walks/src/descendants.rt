@@ -8,7 +8,7 @@ ghost use Rattle.links.specs.Summary.{number_in};
 ghost use Rattle.forest.specs.Told.{told_of};
 ghost use Rattle.walks.specs.Walks.{descendants_in};
 
-use children::{Answer, MAX_HANDLES};
+use children::MAX_HANDLES;
 use error::{AddedErrorCode, DpeErrorCode, InternalErrorCode};
 use table::state::State;
 
@@ -20,15 +20,15 @@ pub fn descend(
     path: u64,
     slot: usize,
     depth: usize,
-) -> Answer
+) -> Result<u64, DpeErrorCode>
     requires { slot < slot_count }
     ensures { result ≡ told_of InvalidHandle (walk_down slot_count (marked live) (number_in children.now) depth path slot) }
 {
     if depth == 0 {
-        return Answer::Refused(DpeErrorCode::Added(AddedErrorCode::WalkLoops));
+        return Err(DpeErrorCode::Added(AddedErrorCode::WalkLoops));
     }
     if !children::has_child(live, slot) {
-        return Answer::Refused(DpeErrorCode::InvalidHandle);
+        return Err(DpeErrorCode::InvalidHandle);
     }
     let down = children::with(path, slot);
     let kids = children[slot];
@@ -36,24 +36,24 @@ pub fn descend(
     let mut k = children::next(kids, 0);
     while k < MAX_HANDLES {
         if children::has_child(down, k) {
-            return Answer::Refused(DpeErrorCode::Added(AddedErrorCode::WalkLoops));
+            return Err(DpeErrorCode::Added(AddedErrorCode::WalkLoops));
         }
         let w = descend(children, live, down, k, depth - 1);
-        let Answer::Marks(m) = w else {
+        let Ok(m) = w else {
             return w;
         };
         found = children::add_children(found, m);
         k = children::next(kids, k + 1);
     }
-    Answer::Marks(found)
+    Ok(found)
 }
 
 // The descendants of a slot, as marks.
-pub fn get_descendants(t: State, slot: usize) -> Answer
+pub fn get_descendants(t: State, slot: usize) -> Result<u64, DpeErrorCode>
     ensures { result ≡ descendants_in slot_count (slot_of t.contexts) slot }
 {
     if slot >= MAX_HANDLES {
-        return Answer::Refused(DpeErrorCode::InternalError(InternalErrorCode::ContextIndexOob));
+        return Err(DpeErrorCode::InternalError(InternalErrorCode::ContextIndexOob));
     }
     let l = links::links_of(t);
     let children = l.children;

@@ -7,15 +7,14 @@ pub mod descendants;
 ghost use Rattle.std.specs.Prelude.{◌≡◌};
 ghost use Rattle.walks.specs.Walks.{why_of};
 
-use children::Answer;
 use error::DpeErrorCode;
 
 // The refusal of an answer, for the `else` of a `let .. else`; marks have none, and are not asked.
-pub fn why(a: Answer) -> DpeErrorCode
+pub fn why(a: Result<u64, DpeErrorCode>) -> DpeErrorCode
     ensures { result ≡ why_of a }
 {
     match a {
-        Answer::Marks(_) => DpeErrorCode::InvalidHandle,
-        Answer::Refused(e) => e,
+        Ok(_) => DpeErrorCode::InvalidHandle,
+        Err(e) => e,
     }
 }

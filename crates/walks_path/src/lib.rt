@@ -2,7 +2,7 @@
 // It runs over the summary of the links, and ends on every table.
 #![tactic(auto)]
 
-ghost use Rattle.std.specs.Prelude.{◌≡◌, ◌<◌};
+ghost use Rattle.std.specs.Prelude.{◌≡◌, ◌<◌, Ok};
 ghost use Rattle.children.specs.Marks.{slot_count, marked};
 ghost use Rattle.context.specs.Context.{slot_of};
 ghost use Rattle.links.specs.Summary.{number_in, steps_up};
@@ -11,55 +11,55 @@ ghost use Rattle.walks_path.specs.Path.{parent_of, length_from, slots_of, path_o
 use children::MAX_HANDLES;
 use context::ROOT_INDEX;
 use error::{DpeErrorCode, InternalErrorCode};
-use table::state::{Found, State};
+use table::state::State;
 
 // A path: how many slots it has, or why there is none; and the slots from the root on, 0 after the last.
 #[derive(Clone, Copy)]
 pub struct Path {
-    pub length: Found,
+    pub length: Result<usize, DpeErrorCode>,
     pub slots: [u8; MAX_HANDLES],
 }
 
 // The parent of a slot that may stand on a path.
-fn parent_of(parents: &[u8; MAX_HANDLES], live: u64, slot: usize) -> Found
+fn parent_of(parents: &[u8; MAX_HANDLES], live: u64, slot: usize) -> Result<usize, DpeErrorCode>
     ensures { result ≡ parent_of slot_count (marked live) (number_in parents.now) slot }
 {
     if slot >= MAX_HANDLES {
-        return Found::Refused(DpeErrorCode::InternalError(InternalErrorCode::ContextIndexOob));
+        return Err(DpeErrorCode::InternalError(InternalErrorCode::ContextIndexOob));
     }
     if !children::has_child(live, slot) {
-        return Found::Refused(DpeErrorCode::InvalidHandle);
+        return Err(DpeErrorCode::InvalidHandle);
     }
     let p = parents[slot];
     if p == ROOT_INDEX {
-        return Found::At(links::index(p));
+        return Ok(links::index(p));
     }
     if links::index(p) >= MAX_HANDLES {
-        return Found::Refused(DpeErrorCode::InvalidHandle);
+        return Err(DpeErrorCode::InvalidHandle);
     }
-    Found::At(links::index(p))
+    Ok(links::index(p))
 }
 
 // How many slots the path to a slot has.
-fn length(parents: &[u8; MAX_HANDLES], live: u64, slot: usize) -> Found
+fn length(parents: &[u8; MAX_HANDLES], live: u64, slot: usize) -> Result<usize, DpeErrorCode>
     ensures { result ≡ length_from slot_count (marked live) (number_in parents.now) slot_count 0 slot }
 {
     let mut x = slot;
     for j in 0..MAX_HANDLES {
         let f = parent_of(parents, live, x);
-        let Found::At(p) = f else {
+        let Ok(p) = f else {
             return f;
         };
         if p == links::index(ROOT_INDEX) {
-            return Found::At(j + 1);
+            return Ok(j + 1);
         }
         x = p;
     }
     let f = parent_of(parents, live, x);
-    let Found::At(_) = f else {
+    let Ok(_) = f else {
         return f;
     };
-    Found::Refused(DpeErrorCode::InternalError(InternalErrorCode::TciNodeCountExceeded))
+    Err(DpeErrorCode::InternalError(InternalErrorCode::TciNodeCountExceeded))
 }
 
 pub fn byte(x: usize) -> u8
@@ -72,7 +72,7 @@ pub fn byte(x: usize) -> u8
 // The slots of a path of k slots, from the root on: the last is the slot itself.
 fn laid(parents: &[u8; MAX_HANDLES], slot: usize, k: usize) -> [u8; MAX_HANDLES]
     requires { Climbs slot_count (number_in parents.now) slot k }
-    ensures { result ≡ slots_of slot_count (λ j. steps_up (number_in parents.now) j slot) (Found.At k) }
+    ensures { result ≡ slots_of slot_count (λ j. steps_up (number_in parents.now) j slot) (Ok k) }
 {
     let mut slots = [0u8; MAX_HANDLES];
     let mut x = slot;
@@ -88,7 +88,7 @@ fn climbed(parents: &[u8; MAX_HANDLES], live: u64, slot: usize) -> Path
     ensures { result ≡ path_of slot_count (marked live) (number_in parents.now) slot }
 {
     let length = length(parents, live, slot);
-    let Found::At(k) = length else {
+    let Ok(k) = length else {
         let slots = [0u8; MAX_HANDLES];
         return Path { length, slots };
     };

@@ -1,5 +1,6 @@
 -- The Rust's run above a slot has no bound. For every table, damaged ones included: WalkLoops is answered exactly where that run returns at no
 -- number of steps, and every other answer is its own. Assumes nothing.
+use Rattle.std.specs.Prelude.{Err}
 use mathlib.Core.Bool.{false}
 use mathlib.Core.Logic.{◌≢◌, ◌↔◌}
 use mathlib.Core.Path.{◌≡◌, sym, ap}
@@ -8,7 +9,6 @@ use native.Mathlib.Omega.{arith}
 use Rattle.error.specs.declared.DpeErrorCode.TheVariants.{InternalError, Added}
 use Rattle.error.specs.declared.InternalErrorCode.TheVariants.{DestroyParentIndexOob}
 use Rattle.error.specs.declared.AddedErrorCode.TheVariants.{WalkLoops}
-use Rattle.children.specs.declared.Answer.TheVariants.{Refused}
 use Rattle.context.specs.declared.Context.{Context}
 use Rattle.forest.specs.Walk.{Answer, loops}
 use Rattle.forest.specs.Run.{single_in, climb}
@@ -27,7 +27,7 @@ module _ (n : ℕ) (s : ℕ → Context) (slot : ℕ) (h : slot < n) (off : sing
   abbrev rust_run : ℕ → Answer
   rust_run fuel = climb n (single_in n (retired_at s) (kids_at s)) (parent_at s) fuel 0 (parent_at s slot)
 
-  pub run_loop : (run_in n s slot ≡ Refused (Added WalkLoops)) ↔ ((fuel : ℕ) → rust_run fuel ≡ loops)
+  pub run_loop : (run_in n s slot ≡ Err (Added WalkLoops)) ↔ ((fuel : ℕ) → rust_run fuel ≡ loops)
   unfolding run_from
   run_loop =
       let t = told-loops (InternalError DestroyParentIndexOob) parent-apart (rust_run n) in

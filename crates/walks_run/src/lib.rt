@@ -7,7 +7,7 @@ ghost use Rattle.children.specs.Marks.{slot_count, marked};
 ghost use Rattle.links.specs.Summary.{number_in};
 ghost use Rattle.walks_run.specs.Run.{run_from};
 
-use children::{Answer, MAX_HANDLES};
+use children::MAX_HANDLES;
 use context::ROOT_INDEX;
 use error::{AddedErrorCode, DpeErrorCode, InternalErrorCode};
 
@@ -17,7 +17,7 @@ pub fn run_above(
     parents: &[u8; MAX_HANDLES],
     retired: u64,
     start: u8,
-) -> Answer
+) -> Result<u64, DpeErrorCode>
     ensures { result ≡ run_from slot_count (marked retired) (number_in parents.now) (number_in children.now) start }
 {
     let mut taken = children::empty();
@@ -26,20 +26,20 @@ pub fn run_above(
         let i = links::index(p);
         if i >= MAX_HANDLES {
             if p == ROOT_INDEX {
-                return Answer::Marks(taken);
+                return Ok(taken);
             }
-            return Answer::Refused(DpeErrorCode::InternalError(
+            return Err(DpeErrorCode::InternalError(
                 InternalErrorCode::DestroyParentIndexOob,
             ));
         }
         if !children::has_child(retired, i) {
-            return Answer::Marks(taken);
+            return Ok(taken);
         }
         if children::count(children[i]) != 1 {
-            return Answer::Marks(taken);
+            return Ok(taken);
         }
         taken = children::with(taken, i);
         p = parents[i];
     }
-    Answer::Refused(DpeErrorCode::Added(AddedErrorCode::WalkLoops))
+    Err(DpeErrorCode::Added(AddedErrorCode::WalkLoops))
 }

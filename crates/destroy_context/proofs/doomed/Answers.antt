@@ -1,8 +1,8 @@
 -- `destroy_context::doomed` meets its contract. Assumes nothing.
+use Rattle.std.specs.Prelude.{Ok}
 use mathlib.Core.Path.{sym, ap, ◌∙◌}
 use Prim.Native.Nat.{ℕ}
 use Rattle.error.specs.declared.DpeErrorCode.TheVariants.{InvalidHandle}
-use Rattle.children.specs.declared.Answer.TheVariants.{Marks}
 use Rattle.children.specs.Marks.{slot_count, marked, joined}
 use Rattle.forest.specs.Walk.{walk_down}
 use Rattle.links.specs.Summary.{number_in}
@@ -37,5 +37,5 @@ returns c =
     let under =
     ap (λ (x : ℕ). told_of InvalidHandle (walk_down slot_count (marked l.live) (number_in l.children) slot_count x a.slot)) (sym c.empty.ensures)
     ∙ sym c.descend-below.ensures in
-    ap Marks (c.add_children-set.ensures ∙ ap (λ (x : ℕ). joined x c.in-Marks.retired) c.with.ensures)
+    ap Ok (c.add_children-set.ensures ∙ ap (λ (x : ℕ). joined x c.in-Marks.retired) c.with.ensures)
     ∙ sym (doomed-both _ _ _ _ _ a.slot c.if-slot-ge-MAX_HANDLES.false _ _ (sym c.run_above-above.ensures ∙ c.in-Marks.is) (under ∙ c.in-Marks-below.is))

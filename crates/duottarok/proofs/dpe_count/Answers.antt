@@ -1,4 +1,5 @@
 -- `duottarok::dpe_count` meets its contract. Assumes nothing.
+use Rattle.std.specs.Prelude.{Ok}
 use mathlib.Core.Path.{◌≡◌, sym, ap, ◌∙◌}
 use borrow.Author.Tests.{lt-ltb, le-ltb}
 use Rattle.error.specs.Numbers.{word_of}
@@ -9,7 +10,6 @@ use Rattle.context.specs.Context.{slot_of}
 use Rattle.table.specs.State.{count_in}
 use Rattle.image_context.specs.Context.{state_of}
 use Rattle.image.specs.State.{decode_state}
-use Rattle.table.specs.declared.state.Found.TheVariants.{At}
 use Rattle.duottarok.specs.Exports.{count_at}
 use Rattle.tell.proofs.Told.{found_refused, told-found}
 use Rattle.duottarok.proofs.Exports.{unread-found, read_found}
@@ -35,7 +35,7 @@ pub returns : goal.returns
 returns c =
     let a = c.args in
     let l = a.image.now in
-    let r : count_at l a.state ≡ At (count_in slot_count (slot_of (decode_state l).contexts) (state_of a.state))
+    let r : count_at l a.state ≡ Ok (count_in slot_count (slot_of (decode_state l).contexts) (state_of a.state))
     = read_found _ (readable_done _ (sym c.is_readable.ensures ∙ c.if-not-is_readable.false)) _ ∙ rw (lt-ltb a.state 3 c.if-state-ge3.false) in
-    let w = told-found _ (count_at l a.state) a.count.now (ap At c.count_contexts.ensures ∙ sym r) (c.number.ensures.value, c.number.ensures.place_after) in
+    let w = told-found _ (count_at l a.state) a.count.now (ap Ok c.count_contexts.ensures ∙ sym r) (c.number.ensures.value, c.number.ensures.place_after) in
     record { value = w.0; count_after = w.1 }

@@ -1,6 +1,6 @@
 -- `duottarok::dpe_destroy_context` meets its contract. Assumes nothing.
+use Rattle.std.specs.Prelude.{Err}
 use mathlib.Core.Path.{◌≡◌, sym, ap, ◌∙◌}
-use Rattle.error.specs.declared.Outcome.TheVariants.{Refused}
 use Rattle.error.specs.Numbers.{word_of}
 use Rattle.image.specs.State.{decode_state}
 use Rattle.image.proofs.Reading.{readable_done, not_readable}
@@ -17,7 +17,7 @@ returns-then-not-is_readable c =
     let a = c.args in
     let d = destroy_at a.image.now a.handle.now a.locality in
     let x = not_readable a.image.now (sym c.is_readable.ensures ∙ c.if-not-is_readable.true) in
-    let e : d.answer ≡ Refused x.0 = unread-destroy _ _ x.1 _ _ in
+    let e : d.answer ≡ Err x.0 = unread-destroy _ _ x.1 _ _ in
     record {
       value = c.unread.ensures ∙ ap word_of (x.1 ∙ sym e);
       image_after = gone_refused d a.image.now _ e;

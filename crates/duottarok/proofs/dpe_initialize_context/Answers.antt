@@ -1,6 +1,6 @@
 -- `duottarok::dpe_initialize_context` meets its contract. Assumes nothing.
+use Rattle.std.specs.Prelude.{Err}
 use mathlib.Core.Path.{◌≡◌, sym, ap, ◌∙◌}
-use Rattle.error.specs.declared.Outcome.TheVariants.{Refused}
 use Rattle.error.specs.Numbers.{word_of}
 use Rattle.table.specs.declared.state.NewHandle.{NewHandle}
 use Rattle.image.specs.State.{decode_state}
@@ -19,7 +19,7 @@ returns-then-not-is_readable c =
     let a = c.args in
     let n = initialize_at a.image.now a.flags a.locality a.candidates.now in
     let x = not_readable a.image.now (sym c.is_readable.ensures ∙ c.if-not-is_readable.true) in
-    let e : n.answer ≡ Refused x.0 = unread-handle _ _ x.1 _ _ in
+    let e : n.answer ≡ Err x.0 = unread-handle _ _ x.1 _ _ in
     record {
       value = c.unread.ensures ∙ ap word_of (x.1 ∙ sym e);
       image_after = after_refused n a.image.now _ e;

@@ -1,7 +1,9 @@
 -- `duottarok::dpe_path` meets its contract. Assumes nothing.
+use Prim.Native.Nat.{ℕ}
+use Rattle.error.specs.declared.DpeErrorCode.{DpeErrorCode}
+use Rattle.std.specs.Prelude.{Result}
 use mathlib.Core.Path.{sym, ap, ◌∙◌}
 use Rattle.error.specs.Numbers.{word_of}
-use Rattle.table.specs.declared.state.Found.{Found}
 use Rattle.image.proofs.Reading.{readable-size, readable_done, not_readable}
 use Rattle.walks_path.specs.Path.{slots_place}
 use Rattle.duottarok.specs.Exports.{path_at, length_at}
@@ -17,7 +19,7 @@ returns-then-not-is_readable c =
     let p = found_refused (length_at a.image.now a.slot) _ a.length.now _ q (c.unread.ensures ∙ ap word_of x.1) in
     record {
       value = p.0;
-      slots_after = sym (ap (λ (f : Found). slots_place f (path_at a.image.now a.slot).slots a.slots.now) q);
+      slots_after = sym (ap (λ (f : Result ℕ DpeErrorCode). slots_place f (path_at a.image.now a.slot).slots a.slots.now) q);
       length_after = p.1;
     }
 
@@ -32,6 +34,6 @@ returns c =
     let p = told-found _ (length_at a.image.now a.slot) a.length.now (e.value ∙ sym q) (c.number.ensures.value, c.number.ensures.place_after) in
     record {
       value = p.0;
-      slots_after = e.slots_after ∙ sym (ap (λ (f : Found). slots_place f (path_at a.image.now a.slot).slots a.slots.now) q);
+      slots_after = e.slots_after ∙ sym (ap (λ (f : Result ℕ DpeErrorCode). slots_place f (path_at a.image.now a.slot).slots a.slots.now) q);
       length_after = p.1;
     }

@@ -1,17 +1,16 @@
 -- `peek_validate::validate_image` meets its contract. Assumes nothing.
+use Rattle.std.specs.Prelude.{Result, Ok, Err}
 use mathlib.Core.Path.{◌≡◌, sym, ap, ◌∙◌}
 use Rattle.error.specs.declared.DpeErrorCode.{DpeErrorCode}
-use Rattle.error.specs.declared.Outcome.{Outcome}
-use Rattle.error.specs.declared.Outcome.TheVariants.{Done, Refused}
 use Rattle.image_kinds.specs.Kinds.{first}
 use Rattle.image.proofs.Reading.{readable-size, readable_done, not_readable}
 use Rattle.verdict.specs.Tests.{outcome_of}
 use Rattle.peek_validate.proofs.validate_image.Goals as goal
 
-unread : (o a : Outcome) (x : DpeErrorCode) → o ≡ Refused x → first o a ≡ o
+unread : (o a : Result Unit DpeErrorCode) (x : DpeErrorCode) → o ≡ Err x → first o a ≡ o
 unread o a x q = rw q
 
-read : (o a : Outcome) → o ≡ Done → first o a ≡ a
+read : (o a : Result Unit DpeErrorCode) → o ≡ Ok tt → first o a ≡ a
 read o a q = rw q
 
 pub returns-then-not-is_readable : goal.returns-then-not-is_readable

@@ -1,6 +1,6 @@
 -- `place_destroy::destroy_context` meets its contract. Assumes nothing.
+use Rattle.std.specs.Prelude.{Err}
 use mathlib.Core.Path.{sym, ap, ◌∙◌}
-use Rattle.error.specs.declared.Outcome.TheVariants.{Refused}
 use Rattle.children.specs.Marks.{slot_count}
 use Rattle.image.specs.State.{decode_state, encode_state}
 use Rattle.image.proofs.Reading.{readable-size}
@@ -20,7 +20,7 @@ returns-in_default c =
     let q = c.in_default.is in
     let d = ap (λ (x : Destroyed). x.answer) (not_found (decode_state c.args.image.now) c.args.handle c.args.locality _ (sym c.get_active_context_pos-found.ensures ∙ q)) in
     record {
-      value = ap Refused (c.why.ensures ∙ ap lookup.why_of q) ∙ sym d;
+      value = ap Err (c.why.ensures ∙ ap lookup.why_of q) ∙ sym d;
       image_after = gone_refused _ _ _ d;
     }
 
@@ -36,7 +36,7 @@ returns-in_default-gone c =
     let at = found_at t c.args.handle c.args.locality _ (sym c.get_active_context_pos-found.ensures ∙ c.in-At.is) in
     let d = ap (λ (x : Destroyed). x.answer) (at ∙ slot_refused t c.in-At.slot _ (sym c.doomed-gone.ensures ∙ q)) in
     record {
-      value = ap Refused (c.why-in_default-gone.ensures ∙ ap walks.why_of q) ∙ sym d;
+      value = ap Err (c.why-in_default-gone.ensures ∙ ap walks.why_of q) ∙ sym d;
       image_after = gone_refused _ _ _ d;
     }
 

@@ -1,8 +1,8 @@
 -- `place_destroy::doomed` meets its contract. Assumes nothing.
+use Rattle.std.specs.Prelude.{Ok}
 use mathlib.Core.Path.{sym, ap, ◌∙◌}
 use Prim.Native.Nat.{ℕ}
 use Rattle.error.specs.declared.DpeErrorCode.TheVariants.{InvalidHandle}
-use Rattle.children.specs.declared.Answer.TheVariants.{Marks}
 use Rattle.children.specs.Marks.{slot_count, joined}
 use Rattle.context.specs.Context.{slot_of}
 use Rattle.image.specs.State.{decode_state}
@@ -37,5 +37,5 @@ returns c =
     let under =
     ap (λ (x : ℕ). told_of InvalidHandle (walk_down slot_count (live_at s) (kids_at s) slot_count x c.args.slot)) (sym c.empty.ensures)
     ∙ sym c.descend-below.ensures in
-    ap Marks (c.add_children-set.ensures ∙ ap (λ (x : ℕ). joined x c.in-Marks.retired) c.with.ensures)
+    ap Ok (c.add_children-set.ensures ∙ ap (λ (x : ℕ). joined x c.in-Marks.retired) c.with.ensures)
     ∙ sym (doomed-both _ _ _ _ _ c.args.slot c.requires.1 _ _ (up ∙ c.in-Marks.is) (under ∙ c.in-Marks-below.is))

@@ -1,12 +1,12 @@
+use Rattle.std.specs.Prelude.{Ok}
 use mathlib.Core.Path.{◌≡◌}
 use Prim.Native.Nat.{ℕ, ◌≤◌}
 use Rattle.children.specs.Marks.{slot_count, marked}
 use Rattle.links.specs.Summary.{number_in}
-use Rattle.verdict.specs.declared.Verdict.TheVariants.{Valid}
 use Rattle.verdict.specs.Tests.{first_below, within, locality_of}
 use Rattle.validation_localities.proofs.first_fault.Given as goal
 
 abbrev pub invariant-loop-j : goal.invariant-loop-j
 invariant-loop-j l =
     (l.j ≤ slot_count)
-    × (first_below (λ (i : ℕ). locality_of slot_count (within (number_in l.localities) (marked l.defaults) (number_in l.localities i)) (within (number_in l.localities) (marked l.others) (number_in l.localities i))) l.j ≡ Valid)
+    × (first_below (λ (i : ℕ). locality_of slot_count (within (number_in l.localities) (marked l.defaults) (number_in l.localities i)) (within (number_in l.localities) (marked l.others) (number_in l.localities i))) l.j ≡ Ok tt)

@@ -1,4 +1,6 @@
 -- `validation_localities::locality_test` meets its contract. Assumes nothing.
+use Rattle.error.specs.declared.ValidationError.{ValidationError}
+use Rattle.std.specs.Prelude.{Result}
 use mathlib.Core.List.{List}
 use mathlib.Core.Path.{◌≡◌, refl, sym, ap, ◌∙◌}
 use Prim.Native.Nat.{ℕ, suc}
@@ -7,14 +9,13 @@ use Rattle.children.specs.Below.{count}
 use Rattle.children.specs.Marks.{slot_count, marked}
 use Rattle.children.proofs.Below.{count-le}
 use Rattle.links.specs.Summary.{number_in}
-use Rattle.verdict.specs.declared.Verdict.{Verdict}
 use Rattle.verdict.specs.Tests.{first_below, within, mix_test, locality_of}
 use Rattle.verdict.proofs.Steps.{below_more, below_stop}
 use Rattle.validation_localities.proofs.Counts.{count-more, mix_on}
 use Rattle.validation_localities.proofs.locality_test.Goals as goal
 
 -- the tests of the slots of the locality l, up to each slot
-abbrev Here : List ℕ → ℕ → ℕ → ℕ → ℕ → Verdict
+abbrev Here : List ℕ → ℕ → ℕ → ℕ → ℕ → Result Unit ValidationError
 Here localities defaults others l j =
     mix_test (count (within (number_in localities) (marked defaults) l) (suc j)) (count (within (number_in localities) (marked others) l) (suc j))
 

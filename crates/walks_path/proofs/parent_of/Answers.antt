@@ -1,10 +1,10 @@
 -- `walks_path::parent_of` meets its contract. Assumes nothing.
+use Rattle.std.specs.Prelude.{Ok}
 use mathlib.Core.Path.{sym, ap, ◌∙◌}
 use Prim.Native.Nat.{◌<◌}
 use native.Mathlib.Omega.{arith}
 use Rattle.children.specs.Marks.{slot_count}
 use Rattle.children.proofs.Marks.{seen}
-use Rattle.table.specs.declared.state.Found.TheVariants.{At}
 use Rattle.walks_path.proofs.Steps.{parent_oob, parent-idle, parent_stray, parent-slot, parent_none}
 use Rattle.walks_path.proofs.parent_of.Goals as goal
 
@@ -19,7 +19,7 @@ returns-then-not-has_child c =
 pub returns-then-p : goal.returns-then-p
 returns-then-p c =
     let h : c.args.slot < slot_count = omega arith in
-    ap At c.index.ensures ∙ sym (parent_none _ _ _ _ h (seen slot_count _ _ h c.has_child.ensures c.if-not-has_child.false) c.if-p.true)
+    ap Ok c.index.ensures ∙ sym (parent_none _ _ _ _ h (seen slot_count _ _ h c.has_child.ensures c.if-not-has_child.false) c.if-p.true)
 
 pub returns-then-index-ge-MAX_HANDLES : goal.returns-then-index-ge-MAX_HANDLES
 returns-then-index-ge-MAX_HANDLES c =
@@ -29,4 +29,4 @@ returns-then-index-ge-MAX_HANDLES c =
 pub returns : goal.returns
 returns c =
     let h : c.args.slot < slot_count = omega arith in
-    ap At c.index-3.ensures ∙ sym (parent-slot _ _ _ _ h (seen slot_count _ _ h c.has_child.ensures c.if-not-has_child.false) (omega arith))
+    ap Ok c.index-3.ensures ∙ sym (parent-slot _ _ _ _ h (seen slot_count _ _ h c.has_child.ensures c.if-not-has_child.false) (omega arith))

@@ -1,9 +1,9 @@
+use Rattle.std.specs.Prelude.{Ok}
 use Prim.Native.Nat.{◌≤◌}
 use mathlib.Core.Path.{◌≡◌}
 use Rattle.children.specs.Marks.{slot_count}
-use Rattle.error.specs.declared.Outcome.TheVariants.{Done}
 use Rattle.image.specs.State.{slots_answer}
 use Rattle.image.proofs.state.readable.Given as goal
 
 abbrev pub invariant-loop-slot : goal.invariant-loop-slot
-invariant-loop-slot l = (l.slot ≤ slot_count) × (slots_answer l.slot l.image ≡ Done)
+invariant-loop-slot l = (l.slot ≤ slot_count) × (slots_answer l.slot l.image ≡ Ok tt)
