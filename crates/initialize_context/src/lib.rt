@@ -15,8 +15,8 @@ use table::{flags, state, support};
 pub fn not_supported(support: u32, has_initialized: u8, flags: u32) -> bool
     ensures { result ≡ not_supported support has_initialized flags }
 {
-    let again = flags::flag_is_default(flags) & u8bool::get(has_initialized);
-    let unsupported = flags::flag_is_simulation(flags) & !support::simulation(support);
+    let again = flags::has_bit(flags, flags::INIT_DEFAULT_BIT) & u8bool::get(has_initialized);
+    let unsupported = flags::has_bit(flags, flags::INIT_SIMULATION_BIT) & !flags::has_bit(support, support::SIMULATION_BIT);
     again | unsupported
 }
 
@@ -24,7 +24,7 @@ pub fn not_supported(support: u32, has_initialized: u8, flags: u32) -> bool
 pub fn both_or_neither(flags: u32) -> bool
     ensures { result ≡ both_or_neither flags }
 {
-    !(flags::flag_is_default(flags) ^ flags::flag_is_simulation(flags))
+    !(flags::has_bit(flags, flags::INIT_DEFAULT_BIT) ^ flags::has_bit(flags, flags::INIT_SIMULATION_BIT))
 }
 
 // A new context with no parent.
@@ -106,7 +106,7 @@ pub fn initialize_context(t: State, flags: u32, locality: u32, candidates: &[u8]
     let Ok(i) = state::get_next_inactive_context_pos(t) else {
         return state::refused(t, DpeErrorCode::MaxTcis);
     };
-    if flags::flag_is_default(flags) {
+    if flags::has_bit(flags, flags::INIT_DEFAULT_BIT) {
         return initialize_default(t, i, locality);
     }
     initialize_simulation(t, i, locality, candidates)

@@ -65,7 +65,7 @@ pub fn initialize_context(image: &mut [u8], flags: u32, locality: u32, candidate
     let Ok(i) = find::get_next_inactive_context_pos(image) else {
         return candidates::untaken(DpeErrorCode::MaxTcis);
     };
-    if flags::flag_is_default(flags) {
+    if flags::has_bit(flags, flags::INIT_DEFAULT_BIT) {
         return initialize_default(image, i, locality);
     }
     initialize_simulation(image, i, locality, candidates)

@@ -46,7 +46,7 @@ fn new_handle(image: &[u8], i: usize, locality: u32, flags: u32, candidates: &[u
     requires { length image.now ≡ state_size }
     ensures { result ≡ chosen_of (rotated_at (decode_state image.now) locality flags candidates.now (At i)) }
 {
-    if !flags::uses_target_is_default(flags) {
+    if !flags::has_bit(flags, flags::ROTATE_TARGET_IS_DEFAULT_BIT) {
         return choose::generate_new_handle(image, candidates);
     }
     if is_occupied(image, locality, i) {
@@ -71,7 +71,7 @@ pub fn rotate_context(
     ensures image_after { image.new ≡ image_after (rotated_of (decode_state image.old) handle locality flags candidates.now) image.old }
 {
     let support = wire::read_u32(image, state::SUPPORT_AT);
-    if !support::rotate_context(support) {
+    if !flags::has_bit(support, support::ROTATE_CONTEXT_BIT) {
         return candidates::untaken(DpeErrorCode::InvalidCommand);
     }
     let found = find::get_active_context_pos(image, handle, locality);

@@ -91,14 +91,14 @@ pub fn rotate_context(
     ensures { result ≡ rotated_of t handle locality flags candidates.now }
 {
     let support = t.support;
-    if !support::rotate_context(support) {
+    if !flags::has_bit(support, support::ROTATE_CONTEXT_BIT) {
         return state::refused(t, DpeErrorCode::InvalidCommand);
     }
     let found = lookup::get_active_context_pos(t, handle, locality);
     let Ok(i) = found else {
         return state::refused(t, lookup::why(found));
     };
-    if flags::uses_target_is_default(flags) {
+    if flags::has_bit(flags, flags::ROTATE_TARGET_IS_DEFAULT_BIT) {
         return rotate_to_default(t, i, locality);
     }
     rotate_to_candidate(t, i, candidates)

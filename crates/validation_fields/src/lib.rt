@@ -9,23 +9,23 @@ ghost use Rattle.verdict.specs.Tests.{support_of, is_zero_tci, inactive_of};
 use context::tci::{TCI_SIZE, TciNodeData};
 use context::{Context, u8bool};
 use error::ValidationError;
-use table::support;
+use table::{flags, support};
 
 // What a context uses against the support word.
 pub fn support_test(c: Context, word: u32) -> Result<(), ValidationError>
     ensures { result ≡ support_of word c }
 {
     let k = c.context_type;
-    if !context::is_normal(k) & !support::simulation(word) {
+    if !context::is_normal(k) & !flags::has_bit(word, support::SIMULATION_BIT) {
         return Err(ValidationError::SimulationNotSupported);
     }
-    if u8bool::get(c.uses_internal_input_dice) & !support::internal_dice(word) {
+    if u8bool::get(c.uses_internal_input_dice) & !flags::has_bit(word, support::INTERNAL_DICE_BIT) {
         return Err(ValidationError::InternalDiceNotSupported);
     }
-    if u8bool::get(c.uses_internal_input_info) & !support::internal_info(word) {
+    if u8bool::get(c.uses_internal_input_info) & !flags::has_bit(word, support::INTERNAL_INFO_BIT) {
         return Err(ValidationError::InternalInfoNotSupported);
     }
-    if (c.parent_idx != context::ROOT_INDEX) & (u8bool::get(c.allow_x509) & !support::x509(word)) {
+    if (c.parent_idx != context::ROOT_INDEX) & (u8bool::get(c.allow_x509) & !flags::has_bit(word, support::X509_BIT)) {
         return Err(ValidationError::AllowX509NotSupported);
     }
     Ok(())
