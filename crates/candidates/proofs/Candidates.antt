@@ -1,5 +1,5 @@
 -- Laws of the choice: what a candidate that was taken satisfies, what each refusal says, and that only the slots below n count. Assumes nothing.
-use Rattle.std.specs.Prelude.{Ok, Err}
+use Rattle.std.specs.Prelude.{Err}
 use mathlib.Core.Path.{◌≡◌, refl, sym, ap, ◌∙◌}
 use mathlib.Core.Logic.{◌⊎◌, inl, inr}
 use mathlib.Core.Bool.{Bool, true, false, cond, not, ◌&&◌}
@@ -12,6 +12,7 @@ use borrow.Author.Tests.{lt-ltb, le-ltb, le-leb, lt-leb}
 use lib.Dec.{ltb}
 use lib.ListN.{length, take, drop, get_or, set, length-take, length-drop}
 use lib.Seq.{take-suc, take-suc-set, get_or-drop}
+use Rattle.error.specs.Numbers.{done}
 use Rattle.error.specs.declared.DpeErrorCode.{DpeErrorCode}
 use Rattle.error.specs.declared.DpeErrorCode.TheVariants.{InternalError, Added}
 use Rattle.error.specs.declared.InternalErrorCode.TheVariants.{HandleGenerationExhausted}
@@ -119,7 +120,7 @@ differ {a} {b} f e = clash ((same_iff a b).1 e) f
 pub same_refused : {e f : DpeErrorCode} → Err e ≡ Err f → e ≡ f
 same_refused p = cc
 
-pub never_done : {A : Type 0} {e : DpeErrorCode} → (Ok tt) ≡ Err e → A
+pub never_done : {A : Type 0} {e : DpeErrorCode} → done ≡ Err e → A
 never_done p = absurd (let z : ◌≡◌ {A = ℕ} 0 1 = cc in omega arith)
 
 module _ (n : ℕ) (s : ℕ → Context) (b : List ℕ) where
@@ -156,7 +157,7 @@ module _ (n : ℕ) (s : ℕ → Context) (b : List ℕ) where
         ]
   ]
 
-  pub taken : (chosen_in n s b).answer ≡ Ok tt → Taken n s b (chosen_in n s b).handle
+  pub taken : (chosen_in n s b).answer ≡ done → Taken n s b (chosen_in n s b).handle
   taken e =
       ways
       (λ k t q. rw q t)

@@ -1,6 +1,7 @@
 -- The choice of a usable candidate from the bytes b of a lent buffer. A table is a function s from a slot to its context, and n is the number of
 -- slots. Assumes nothing: these are definitions.
-use Rattle.std.specs.Prelude.{Bool, cond, not, ◌&&◌, List, ℕ, ◌+◌, ◌*◌, leb, ltb, length, take, drop, Ok, Err}
+use Rattle.std.specs.Prelude.{Bool, cond, not, ◌&&◌, List, ℕ, ◌+◌, ◌*◌, leb, ltb, length, take, drop, Err}
+use Rattle.error.specs.Numbers.{done}
 use Rattle.error.specs.declared.DpeErrorCode.{DpeErrorCode}
 use Rattle.error.specs.declared.DpeErrorCode.TheVariants.{InternalError, Added}
 use Rattle.error.specs.declared.InternalErrorCode.TheVariants.{HandleGenerationExhausted}
@@ -36,7 +37,7 @@ usable_at n s b k = holds b (k + 1) && usable n s (candidate_at b k)
 
 -- the candidate h is taken
 abbrev pub taken_of : List ℕ → Chosen
-taken_of h = record { answer = Ok tt; handle = h }
+taken_of h = record { answer = done; handle = h }
 
 -- a refusal: no handle
 abbrev pub untaken_of : DpeErrorCode → Chosen

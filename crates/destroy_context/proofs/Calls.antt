@@ -8,6 +8,7 @@ use Prim.Native.Nat.{ℕ, ◌≤◌, ◌<◌}
 use native.Mathlib.Omega.{arith}
 use lib.Dec.{ltb}
 use borrow.Author.Tests.{lt-ltb, le-ltb}
+use Rattle.error.specs.Numbers.{done}
 use Rattle.error.specs.declared.DpeErrorCode.{DpeErrorCode}
 use Rattle.error.specs.declared.DpeErrorCode.TheVariants.{InternalError}
 use Rattle.error.specs.declared.InternalErrorCode.TheVariants.{ContextIndexOob}
@@ -69,12 +70,12 @@ module _ (t : State) (slot : ℕ) where
   slot_refused e q = ap (on_doomed t) q
 
   pub slot_cleared : (set : ℕ) → doomed_in slot_count (slot_of t.contexts) slot ≡ Ok set
-      → destroy_slot_of t slot ≡ record { answer = Ok tt; state = cleared_by t set }
+      → destroy_slot_of t slot ≡ record { answer = done; state = cleared_by t set }
   unfolding destroy_slot_of on_doomed
   slot_cleared set q = ap (on_doomed t) q
 
   pub both_walked : slot < slot_count → (run down : ℕ) → run_in slot_count (slot_of t.contexts) slot ≡ Ok run → descendants_in slot_count (slot_of t.contexts) slot ≡ Ok down
-      → destroy_slot_of t slot ≡ record { answer = Ok tt; state = cleared_by t (doomed_word down slot run) }
+      → destroy_slot_of t slot ≡ record { answer = done; state = cleared_by t (doomed_word down slot run) }
   unfolding descendants_in
   both_walked h run down p q = slot_cleared (doomed_word down slot run) (doomed-both slot_count _ _ _ _ slot h run down p (rw (lt-ltb slot slot_count h) at q))
 

@@ -1,5 +1,6 @@
 -- Destroy, over the table. Assumes nothing: these are definitions.
 use Rattle.std.specs.Prelude.{Bool, cond, List, ℕ, ltb, Result, Ok, Err}
+use Rattle.error.specs.Numbers.{done}
 use Rattle.error.specs.declared.DpeErrorCode.{DpeErrorCode}
 use Rattle.error.specs.declared.DpeErrorCode.TheVariants.{InternalError}
 use Rattle.error.specs.declared.InternalErrorCode.TheVariants.{ContextIndexOob}
@@ -39,7 +40,7 @@ doomed_in n s slot = doomed_of n (live_at s) (retired_at s) (parent_at s) (kids_
 
 -- they are cleared, or the table stays as it was
 unfoldable pub on_doomed : State → Result ℕ DpeErrorCode → Destroyed
-on_doomed t (Ok set) = record { answer = Ok tt; state = cleared_by t set }
+on_doomed t (Ok set) = record { answer = done; state = cleared_by t set }
 on_doomed t (Err e) = refused_by t e
 
 -- destroy of a slot

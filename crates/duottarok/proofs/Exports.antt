@@ -1,8 +1,9 @@
 -- How an exported call ends, way by way: its word and its lent places. Assumes nothing.
-use Rattle.std.specs.Prelude.{Result, Ok, Err}
+use Rattle.std.specs.Prelude.{Result, Err}
 use mathlib.Core.List.{List}
 use mathlib.Core.Path.{◌≡◌}
 use Prim.Native.Nat.{ℕ}
+use Rattle.error.specs.Numbers.{done}
 use Rattle.error.specs.declared.DpeErrorCode.{DpeErrorCode}
 use Rattle.table.specs.declared.state.State.{State}
 use Rattle.table.specs.declared.state.NewHandle.{NewHandle}
@@ -24,7 +25,7 @@ module _ (o : Result Unit DpeErrorCode) (x : DpeErrorCode) (q : o ≡ Err x) whe
   pub unread-destroy : (t : State) (d : Destroyed) → (destroy_after o t d).answer ≡ Err x
   unread-destroy t d = rw q
 
-module _ (o : Result Unit DpeErrorCode) (q : o ≡ Ok tt) where
+module _ (o : Result Unit DpeErrorCode) (q : o ≡ done) where
   pub read_found : (f : Result ℕ DpeErrorCode) → found_after o f ≡ f
   read_found f = rw q
 

@@ -9,6 +9,10 @@ use Rattle.error.specs.declared.AddedErrorCode.TheVariants.{BadLength, WalkLoops
 use Rattle.error.specs.declared.DpeErrorCode.{DpeErrorCode}
 use Rattle.error.specs.declared.DpeErrorCode.TheVariants.{InternalError, InvalidCommand, InvalidArgument, InvalidHandle, InvalidLocality, ArgumentNotSupported, MaxTcis, Validation, Added}
 
+-- success, where there is nothing more to tell
+abbrev pub done : {E : Type 0} → Result (Unit {0}) E
+done = Ok tt
+
 abbrev pub outer_of : DpeErrorCode → ℕ
 outer_of (InternalError x) = 1
 outer_of InvalidCommand = 2

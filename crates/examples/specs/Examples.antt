@@ -2,7 +2,7 @@
 -- are definitions.
 use Rattle.error.specs.declared.DpeErrorCode.{DpeErrorCode}
 use Rattle.std.specs.Prelude.{List, [], ◌∷◌, ℕ, ◌+◌, ◌*◌, ◌^◌, replicate, Result, Ok, Err}
-use Rattle.error.specs.Numbers.{word_of}
+use Rattle.error.specs.Numbers.{word_of, done}
 use Rattle.children.specs.Marks.{slot_count}
 use Rattle.context.specs.declared.ContextState.{ContextState}
 use Rattle.context.specs.declared.ContextState.TheVariants.{Active, Retired}
@@ -67,14 +67,14 @@ destroyed_result d = record {
 }
 
 abbrev pub marks_result : State → Result ℕ DpeErrorCode → Result
-marks_result t (Ok m) = record { word = word_of (Ok tt); values = m ∷ []; verdict = verdict_word t }
+marks_result t (Ok m) = record { word = word_of done; values = m ∷ []; verdict = verdict_word t }
 marks_result t (Err e) = record { word = word_of (Err e); values = []; verdict = verdict_word t }
 
 abbrev pub handle_of : ℕ → List ℕ
 handle_of b = replicate handle_size b
 
 abbrev pub result_of : State → Asked → Result
-result_of t verdict_only = record { word = word_of (Ok tt); values = []; verdict = verdict_word t }
+result_of t verdict_only = record { word = word_of done; values = []; verdict = verdict_word t }
 result_of t (initialise flags l b) = initialised l (initialized_of t flags l b)
 result_of t (destroy b) = destroyed_result (destroy_of t (handle_of b) 7)
 result_of t (descendants i) = marks_result t (descendants_in slot_count (slot_of t.contexts) i)

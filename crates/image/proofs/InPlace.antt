@@ -1,5 +1,4 @@
 -- Bytes put into an image in place, and the table that it then holds. Assumes nothing.
-use Rattle.std.specs.Prelude.{Ok}
 use mathlib.Core.Path.{◌≡◌, refl, sym, ap, ◌∙◌}
 use mathlib.Core.Logic.{◌⊎◌, inl, inr}
 use mathlib.Core.List.{List, [], ◌∷◌}
@@ -9,6 +8,7 @@ use native.Mathlib.Nat.{add-zero}
 use native.Mathlib.Omega.{arith}
 use lib.ListN.{length, get_or, set, length-set}
 use lib.Seq.{ext_get_or, get_or-set_same, get_or-set_other}
+use Rattle.error.specs.Numbers.{done}
 use Rattle.children.specs.Below.{list_of}
 use Rattle.children.specs.Marks.{slot_count, mark_count}
 use Rattle.children.proofs.Below.{list_of-at, list_of_same, length-list_of}
@@ -165,12 +165,12 @@ bytes_context c f =
 
 -- the bytes l are an image that reads, and its table is t
 pub record ImageOf (l : List ℕ) (t : State) : Type 0 where
-  pub reads : readable_of l ≡ Ok tt
+  pub reads : readable_of l ≡ done
   pub bytes : Bytes l
   pub table : decode_state l ≡ t
 
 -- an image that reads is that of its table, and it is what writing that table gives
-pub image-of : (l : List ℕ) → Bytes l → readable_of l ≡ Ok tt → ImageOf l (decode_state l)
+pub image-of : (l : List ℕ) → Bytes l → readable_of l ≡ done → ImageOf l (decode_state l)
 image-of l b r = record { reads = r; bytes = b; table = refl }
 
 pub image-written : (l : List ℕ) (t : State) → ImageOf l t → encode_state t ≡ l
@@ -181,7 +181,7 @@ image-slot l t o i h = sym (state-slot l i h) ∙ ap (λ (x : State). slot_of x.
 
 module _ (l : List ℕ) (t : State) (o : ImageOf l t) (j : ℕ) (hj : j < slot_count) where
   -- bytes put into slot j, where the slot still reads
-  pub slot_in-place : (k : ℕ) (v : List ℕ) → k + length v ≤ context_size → Bytes v → context_answer (put k v (slot_bytes l j)) ≡ Ok tt
+  pub slot_in-place : (k : ℕ) (v : List ℕ) → k + length v ≤ context_size → Bytes v → context_answer (put k v (slot_bytes l j)) ≡ done
       → ImageOf (put (contexts_at + context_size * j + k) v l) (with_slot t j (decode_context (put k v (slot_bytes l j))))
   slot_in-place k v hk b a =
       let n = readable-size l o.reads in record {
@@ -196,7 +196,7 @@ module _ (l : List ℕ) (t : State) (o : ImageOf l t) (j : ℕ) (hj : j < slot_c
   sized : length (slot_bytes l j) ≡ context_size
   sized = let n = readable-size l o.reads in length_part (contexts_at + context_size * j) context_size l (omega arith)
 
-  good : context_answer (slot_bytes l j) ≡ Ok tt
+  good : context_answer (slot_bytes l j) ≡ done
   good = readable_good l o.reads j hj
 
   -- the offset of a slot's first byte

@@ -1,5 +1,6 @@
 -- Laws of reading a whole image. Assumes nothing.
 use Rattle.std.specs.Prelude.{Result, Ok, Err}
+use Rattle.std.specs.Result.{result_and}
 use mathlib.Core.Path.{◌≡◌, refl, sym, ap, ◌∙◌}
 use mathlib.Core.List.{List}
 use Prim.Native.Nat.{ℕ, zero, suc, ◌+◌, ◌≤◌, ◌<◌}
@@ -9,6 +10,7 @@ use native.Mathlib.Omega.{arith}
 use borrow.Author.Tests.{eq-eqb, ne_eqb}
 use lib.ListN.{length, take, get_or, replicate}
 use lib.Seq.{take_all}
+use Rattle.error.specs.Numbers.{done}
 use Rattle.error.specs.declared.DpeErrorCode.{DpeErrorCode}
 use Rattle.error.specs.declared.DpeErrorCode.TheVariants.{Added}
 use Rattle.error.specs.declared.AddedErrorCode.TheVariants.{BadLength}
@@ -22,9 +24,8 @@ use Rattle.context.specs.declared.Context.{Context}
 use Rattle.table.specs.declared.state.State.{State}
 use Rattle.context.specs.Context.{slot_of, no_context}
 use Rattle.image_kinds.specs.Kinds.{context_answer}
-use Rattle.image_context.specs.Context.{blank_context}
 use Rattle.image_kinds.proofs.Answers.{first_done, good_done, done_good}
-use Rattle.image.specs.State.{support_at, state_size, slot_bytes, slot_in, decode_state, slots_answer, readable_of, good_slot, is_readable, blank_state, state_beside, read_state}
+use Rattle.image.specs.State.{support_at, state_size, slot_bytes, slot_in, decode_state, slots_answer, readable_of, good_slot, is_readable, read_state}
 
 -- ---- the sizes and offsets that document 01 names
 
@@ -45,7 +46,7 @@ state-slot l i h = list_of-at (slot_in l) slot_count i no_context h
 
 module _ (l : List ℕ) where
   -- one slot more that is read, and one that refuses
-  pub slots_on : (i : ℕ) → slots_answer i l ≡ Ok tt → context_answer (slot_bytes l i) ≡ Ok tt → slots_answer (i + 1) l ≡ Ok tt
+  pub slots_on : (i : ℕ) → slots_answer i l ≡ done → context_answer (slot_bytes l i) ≡ done → slots_answer (i + 1) l ≡ done
   unfolding slots_answer
   slots_on i p q = rw (add-one i, slots_answer, p) q
 
@@ -57,19 +58,19 @@ module _ (l : List ℕ) where
     | no ne ↦ rw (stay e i n (omega arith) p)
   ]
 
-  pub slots_stop : (e : DpeErrorCode) (i n : ℕ) → i < n → slots_answer i l ≡ Ok tt → context_answer (slot_bytes l i) ≡ Err e → slots_answer n l ≡ Err e
+  pub slots_stop : (e : DpeErrorCode) (i n : ℕ) → i < n → slots_answer i l ≡ done → context_answer (slot_bytes l i) ≡ Err e → slots_answer n l ≡ Err e
   unfolding slots_answer
   slots_stop e i n h p q = stay e (suc i) n h (rw p q)
 
   -- every slot of an image that reads is good, and an image of good slots reads
-  pub slots_good : (n : ℕ) → slots_answer n l ≡ Ok tt → (i : ℕ) → i < n → context_answer (slot_bytes l i) ≡ Ok tt
+  pub slots_good : (n : ℕ) → slots_answer n l ≡ done → (i : ℕ) → i < n → context_answer (slot_bytes l i) ≡ done
   unfolding slots_answer
   slots_good zero p i h = absurd (omega arith)
   slots_good (suc n) p i h =
       let w = first_done (slots_answer n l) (context_answer (slot_bytes l n)) p in
       elim (ℕ_discrete i n) [ yes q ↦ rw q w.1 | no ne ↦ slots_good n w.0 i (omega arith) ]
 
-  pub good-slots : (n : ℕ) → ((i : ℕ) → i < n → context_answer (slot_bytes l i) ≡ Ok tt) → slots_answer n l ≡ Ok tt
+  pub good-slots : (n : ℕ) → ((i : ℕ) → i < n → context_answer (slot_bytes l i) ≡ done) → slots_answer n l ≡ done
   unfolding slots_answer
   good-slots zero f = refl
   good-slots (suc n) f = rw (good-slots n (λ i h. f i (omega arith))) (f n (omega arith))
@@ -83,16 +84,16 @@ module _ (l : List ℕ) where
   read-slots h = rw (eq-eqb _ _ h)
 
   -- an image reads where it is as long as one and every slot is good
-  pub readable-size : readable_of l ≡ Ok tt → length l ≡ state_size
+  pub readable-size : readable_of l ≡ done → length l ≡ state_size
   readable-size p = elim (ℕ_discrete (length l) state_size) [
     | yes q ↦ q
     | no ne ↦ let r = read_short ne in absurd (let z : ◌≡◌ {A = ℕ} 0 1 = cc in omega arith)
   ]
 
-  pub readable_good : readable_of l ≡ Ok tt → (i : ℕ) → i < slot_count → context_answer (slot_bytes l i) ≡ Ok tt
+  pub readable_good : readable_of l ≡ done → (i : ℕ) → i < slot_count → context_answer (slot_bytes l i) ≡ done
   readable_good p = slots_good slot_count (read-slots (readable-size p) ∙ p)
 
-  pub good_readable : length l ≡ state_size → ((i : ℕ) → i < slot_count → context_answer (slot_bytes l i) ≡ Ok tt) → readable_of l ≡ Ok tt
+  pub good_readable : length l ≡ state_size → ((i : ℕ) → i < slot_count → context_answer (slot_bytes l i) ≡ done) → readable_of l ≡ done
   good_readable n f = sym (read-slots n) ∙ good-slots slot_count f
 
 -- ---- whether it reads, in one pass
@@ -106,13 +107,13 @@ module _ (l : List ℕ) where
   unfolding is_readable
   is_whole h = rw (eq-eqb _ _ h)
 
-  pub readable_done : is_readable l ≡ true → readable_of l ≡ Ok tt
+  pub readable_done : is_readable l ≡ true → readable_of l ≡ done
   unfolding is_readable
   readable_done e =
       let w = and-true _ _ e in
       good_readable l (eqb-true _ _ w.0) (λ i h. good_done (slot_bytes l i) (every-at (good_slot l) slot_count w.1 i h))
 
-  done_readable : readable_of l ≡ Ok tt → is_readable l ≡ true
+  done_readable : readable_of l ≡ done → is_readable l ≡ true
   unfolding is_readable
   done_readable p = and_both (eq-eqb _ _ (readable-size l p)) (at_every (good_slot l) slot_count (λ i h. done_good (slot_bytes l i) (readable_good l p i h)))
 
@@ -127,17 +128,22 @@ module _ (l : List ℕ) where
 -- ---- what reading gives
 
 module _ (l : List ℕ) where
-  pub read_answer : (read_state l).answer ≡ readable_of l
+  pub read_done : readable_of l ≡ done → read_state l ≡ Ok (decode_state l)
   unfolding read_state
-  read_answer = refl
-
-  pub read_done : readable_of l ≡ Ok tt → read_state l ≡ record { answer = Ok tt; state = decode_state l }
-  unfolding read_state state_beside
   read_done p = rw p
 
-  pub read_refused : (e : DpeErrorCode) → readable_of l ≡ Err e → read_state l ≡ record { answer = Err e; state = blank_state }
-  unfolding read_state state_beside
+  pub read_refused : (e : DpeErrorCode) → readable_of l ≡ Err e → read_state l ≡ Err e
+  unfolding read_state
   read_refused e p = rw p
+
+  by_read : (o : Result Unit DpeErrorCode) (t : State) → result_and o (Ok (decode_state l)) ≡ Ok t → (o ≡ done) × (decode_state l ≡ t)
+  by_read (Ok tt) t p = (refl, cc)
+  by_read (Err e) t p = let q : ◌≡◌ {A = Result State DpeErrorCode} (Err e) (Ok t) = p in cc
+
+  -- what is read is the table of an image that reads
+  pub read_tells : (t : State) → read_state l ≡ Ok t → (readable_of l ≡ done) × (decode_state l ≡ t)
+  unfolding read_state
+  read_tells t p = by_read (readable_of l) t p
 
 -- ---- what the code makes
 
@@ -149,14 +155,3 @@ pub state_made : (l : List ℕ) {m v : ℕ} {cs : List Context} {p f : ℕ} → 
     → record { marker = m; version = v; contexts = cs; support = p; flags = f; has_initialized = get_or l (support_at + 6) 0; reserved = get_or l (support_at + 7) 0 } ≡ decode_state l
 unfolding decode_state
 state_made l em ev ec ep ef = cc
-
-pub done_made : (l : List ℕ) {a : Result Unit DpeErrorCode} {t : State} → a ≡ readable_of l → a ≡ Ok tt → t ≡ decode_state l → record { answer = a; state = t } ≡ read_state l
-done_made l e d q = cc (read_done l (sym e ∙ d))
-
-pub refused_made : (l : List ℕ) {a : Result Unit DpeErrorCode} {t : State} {e : DpeErrorCode} → a ≡ readable_of l → a ≡ Err e → t ≡ blank_state → record { answer = a; state = t } ≡ read_state l
-refused_made l {e = e} p d q = cc (read_refused l e (sym p ∙ d))
-
-pub blank_made : {c : Context} → c ≡ blank_context
-    → record { marker = 0; version = 0; contexts = replicate slot_count c; support = 0; flags = 0; has_initialized = 0; reserved = 0 } ≡ blank_state
-unfolding blank_state blank_context decode_state list_of le
-blank_made e = rw e

@@ -1,5 +1,4 @@
 -- Read then write gives the same bytes, and write then read the same table. Assumes nothing.
-use Rattle.std.specs.Prelude.{Ok}
 use mathlib.Core.Path.{◌≡◌, refl, sym, ap, ◌∙◌}
 use mathlib.Core.List.{List, [], ◌∷◌, ◌++◌, append_assoc}
 use Prim.Native.Nat.{ℕ, zero, suc, ◌+◌, ◌*◌, ◌≤◌, ◌<◌}
@@ -9,6 +8,8 @@ use lib.ListN.{length, drop}
 use mir.Val.{Val}
 use denote.Laws.{Is}
 use lib.Seq.{take_all, ext_get_or}
+use Rattle.std.specs.Prelude.{Ok}
+use Rattle.error.specs.Numbers.{done}
 use Rattle.children.specs.Below.{list_of}
 use Rattle.children.specs.Marks.{slot_count}
 use Rattle.children.proofs.Below.{list_of-at, length-list_of}
@@ -26,11 +27,10 @@ use Rattle.image_context.specs.Context.{decode_tci, decode_context, encode_tci, 
 use Rattle.image_kinds.proofs.Answers.{done-bytes, bytes_done}
 use Rattle.image_context.proofs.Fields.{type_byte_lem, state_byte_lem, byte_type, byte_state}
 use Rattle.image_context.proofs.Writing.{length_context}
-use Rattle.image.specs.declared.state.StateRead.{StateRead}
 use Rattle.image.specs.Fits.{Fits}
 use Rattle.image.specs.State.{contexts_at, support_at, state_size, slot_bytes, slot_in, decode_state, readable_of, read_state, encode_slots, encode_state, written}
 use Rattle.image.proofs.Owned.{owned_fits}
-use Rattle.image.proofs.Reading.{readable-size, readable_good, good_readable, read_done}
+use Rattle.image.proofs.Reading.{readable-size, readable_good, good_readable, read_done, read_tells}
 use Rattle.image.proofs.Writing.{encode_slots_snoc, length_all, length_state, write_whole}
 
 -- ---- read, then write
@@ -55,7 +55,7 @@ module _ (l : List ℕ) (n : length l ≡ context_size) (b : Bytes l) where
       (byte_on l 140 3 (omega arith) (byte_on l 141 2 (omega arith) (byte_on l 142 1 (omega arith) (byte_on l 143 0 (omega arith) refl))))))))
 
   -- a context that was read is written as the bytes that it was read from
-  pub context_back : context_answer l ≡ Ok tt → encode_context (decode_context l) ≡ l
+  pub context_back : context_answer l ≡ done → encode_context (decode_context l) ≡ l
   unfolding encode_context decode_context
   context_back h =
       let w = done-bytes l h in
@@ -69,7 +69,7 @@ module _ (l : List ℕ) (n : length l ≡ context_size) (b : Bytes l) where
       ∙ take_all context_size l (omega arith)
 
 module _ (l : List ℕ) (b : Bytes l) where
-  slots_back : (n : ℕ) → contexts_at + context_size * n ≤ length l → ((i : ℕ) → i < n → context_answer (slot_bytes l i) ≡ Ok tt)
+  slots_back : (n : ℕ) → contexts_at + context_size * n ≤ length l → ((i : ℕ) → i < n → context_answer (slot_bytes l i) ≡ done)
       → encode_slots (list_of (slot_in l) n) ≡ part contexts_at (context_size * n) l
   unfolding list_of encode_slots
   slots_back zero h f = refl
@@ -82,7 +82,7 @@ module _ (l : List ℕ) (b : Bytes l) where
       ∙ ap (λ (k : ℕ). part contexts_at k l) e
 
   -- a table that was read is written as the image that it was read from
-  pub state_back : readable_of l ≡ Ok tt → encode_state (decode_state l) ≡ l
+  pub state_back : readable_of l ≡ done → encode_state (decode_state l) ≡ l
   unfolding encode_state decode_state
   state_back h =
       let n = readable-size l h in
@@ -98,9 +98,8 @@ module _ (l : List ℕ) (b : Bytes l) where
       ∙ take_all state_size l (omega arith)
 
   -- READ THEN WRITE: what is left in any buffer of an image's length is the image that was read
-  pub read_write : (read_state l).answer ≡ Ok tt → (out : List ℕ) → length out ≡ state_size → written (read_state l).state out ≡ l
-  unfolding read_state
-  read_write h out n = sym (write_whole (read_state l).state out n).1 ∙ ap (λ (r : StateRead). encode_state r.state) (read_done l h) ∙ state_back h
+  pub read_write : (t : State) → read_state l ≡ Ok t → (out : List ℕ) → length out ≡ state_size → written t out ≡ l
+  read_write t h out n = let r = read_tells l t h in sym (write_whole t out n).1 ∙ ap encode_state (sym r.1) ∙ state_back r.0
 
 -- ---- write, then read
 
@@ -115,7 +114,7 @@ tci_again t f l r h =
     (rw (h₁.0, h₂.0, h₃.0, h₄.0, h₅.0, le-le_bytes 4 _ f.kind, le-le_bytes 4 _ f.locality, le-le_bytes 4 _ f.svn), h₅.1)
 
 module _ (c : Context) (f : FitsContext c) where
-  bytes_again : (l : List ℕ) → l ≡ encode_context c → (decode_context l ≡ c) × (context_answer l ≡ Ok tt)
+  bytes_again : (l : List ℕ) → l ≡ encode_context c → (decode_context l ≡ c) × (context_answer l ≡ done)
   unfolding decode_context encode_context encode_last
   bytes_again l e =
       let h₁ = next_run l 0 16 c.handle _ f.handle.size (simp append_assoc at e) in
@@ -138,7 +137,7 @@ module _ (c : Context) (f : FitsContext c) where
   pub context_again : decode_context (encode_context c) ≡ c
   context_again = (bytes_again (encode_context c) refl).0
 
-  pub context_reads : context_answer (encode_context c) ≡ Ok tt
+  pub context_reads : context_answer (encode_context c) ≡ done
   context_reads = (bytes_again (encode_context c) refl).1
 
 slot_again : (cs : List Context) (at i : ℕ) (l r : List ℕ) → ((j : ℕ) → j < length cs → FitsContext (slot_of cs j)) → i < length cs
@@ -155,7 +154,7 @@ slot_again (c ∷ cs) at (suc i) l r f h e =
     ∙ slot_again cs (at + context_size) i l r (λ j u. f (suc j) (omega arith)) (omega arith) n.1
 
 module _ (t : State) (f : Fits t) where
-  fields_again : (l : List ℕ) → l ≡ encode_state t → (decode_state l ≡ t) × (readable_of l ≡ Ok tt)
+  fields_again : (l : List ℕ) → l ≡ encode_state t → (decode_state l ≡ t) × (readable_of l ≡ done)
   unfolding decode_state encode_state
   fields_again l e =
       let k = f.slots in
@@ -181,9 +180,9 @@ module _ (t : State) (f : Fits t) where
   state_again = (fields_again (encode_state t) refl).0
 
   -- WRITE THEN READ: the same table, and no refusal
-  pub write_read : read_state (encode_state t) ≡ record { answer = Ok tt; state = t }
-  write_read = let w = fields_again (encode_state t) refl in read_done (encode_state t) w.1 ∙ ap (λ (x : State). record { answer = Ok tt; state = x }) w.0
+  pub write_read : read_state (encode_state t) ≡ Ok t
+  write_read = let w = fields_again (encode_state t) refl in read_done (encode_state t) w.1 ∙ ap Ok w.0
 
 -- and code owns no table for which it could fail
-pub owned_write_read : (t : State) (vs : List Val) → Is the_row t vs → read_state (encode_state t) ≡ record { answer = Ok tt; state = t }
+pub owned_write_read : (t : State) (vs : List Val) → Is the_row t vs → read_state (encode_state t) ≡ Ok t
 owned_write_read t vs g = write_read t (owned_fits t vs g)

@@ -1,7 +1,8 @@
 -- The state image, from document 01's offsets; those behind the contexts follow from the number of slots, and `proofs/Reading.antt` shows that they
 -- are document 01's numbers. Assumes nothing: these are definitions.
+use Rattle.error.specs.Numbers.{done}
 use Rattle.error.specs.declared.DpeErrorCode.{DpeErrorCode}
-use Rattle.std.specs.Prelude.{ℕ, zero, suc, ◌+◌, ◌*◌, Bool, cond, ◌&&◌, List, [], ◌∷◌, ◌++◌, length, get_or, replicate, eqb, Result, Ok, Err}
+use Rattle.std.specs.Prelude.{ℕ, zero, suc, ◌+◌, ◌*◌, Bool, cond, ◌&&◌, List, [], ◌∷◌, ◌++◌, length, get_or, eqb, Result, Ok, Err}
 use Rattle.error.specs.declared.DpeErrorCode.TheVariants.{Added}
 use Rattle.error.specs.declared.AddedErrorCode.TheVariants.{BadLength}
 use Rattle.children.specs.Below.{every, list_of}
@@ -9,9 +10,9 @@ use Rattle.children.specs.Marks.{slot_count}
 use Rattle.wire.specs.Le.{part, le, le_bytes}
 use Rattle.context.specs.declared.Context.{Context}
 use Rattle.table.specs.declared.state.State.{State}
-use Rattle.image_kinds.specs.Kinds.{context_size, first, context_answer, is_good}
+use Rattle.image_kinds.specs.Kinds.{context_size, context_answer, is_good}
 use Rattle.image_context.specs.Context.{decode_context, encode_context}
-use Rattle.image.specs.declared.state.StateRead.{StateRead}
+use Rattle.std.specs.Result.{result_and}
 
 -- where the contexts start
 abbrev pub contexts_at : ℕ
@@ -51,10 +52,10 @@ decode_state l = record {
 abbrev pub if_whole : List ℕ → Result Unit DpeErrorCode → Result Unit DpeErrorCode
 if_whole l a = cond (eqb (length l) state_size) a (Err (Added BadLength))
 
--- the first refusal of the slots below n, upward
+-- the result_and refusal of the slots below n, upward
 unfoldable pub slots_answer : ℕ → List ℕ → Result Unit DpeErrorCode
-slots_answer zero l = Ok tt
-slots_answer (suc n) l = first (slots_answer n l) (context_answer (slot_bytes l n))
+slots_answer zero l = done
+slots_answer (suc n) l = result_and (slots_answer n l) (context_answer (slot_bytes l n))
 
 -- what reading an image answers
 unfoldable pub readable_of : List ℕ → Result Unit DpeErrorCode
@@ -68,18 +69,9 @@ good_slot l i = is_good (slot_bytes l i)
 unfoldable pub is_readable : List ℕ → Bool
 is_readable l = eqb (length l) state_size && every (good_slot l) slot_count
 
--- the table of all zero bytes, which stands beside a refusal
-unfoldable pub blank_state : State
-blank_state = decode_state (replicate state_size 0)
-
--- the table that stands beside an answer
-unfoldable pub state_beside : Result Unit DpeErrorCode → List ℕ → State
-state_beside (Ok tt) l = decode_state l
-state_beside (Err e) l = blank_state
-
--- what reading an image gives
-unfoldable pub read_state : List ℕ → StateRead
-read_state l = record { answer = readable_of l; state = state_beside (readable_of l) l }
+-- what reading an image gives: its table, or the result_and refusal
+unfoldable pub read_state : List ℕ → Result State DpeErrorCode
+read_state l = result_and (readable_of l) (Ok (decode_state l))
 
 -- ---- written: field after field
 
@@ -96,7 +88,7 @@ encode_state t =
 
 -- what writing into l answers
 unfoldable pub write_answer : List ℕ → Result Unit DpeErrorCode
-write_answer l = if_whole l (Ok tt)
+write_answer l = if_whole l done
 
 -- what l holds after writing: the image, or what it held where it is no image's length
 unfoldable pub written : State → List ℕ → List ℕ

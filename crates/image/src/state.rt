@@ -25,13 +25,6 @@ pub const RESERVED_AT: usize = SUPPORT_AT + 7;
 
 pub const SIZE: usize = SUPPORT_AT + 8;
 
-// What reading gives: how it ended, and the table, which is that of all zero bytes for a refusal.
-#[derive(Clone, Copy)]
-pub struct StateRead {
-    pub answer: Result<(), DpeErrorCode>,
-    pub state: State,
-}
-
 // Whether every slot is good: their words are joined in one pass with no branch, and looked at together.
 fn are_good(image: &[u8]) -> bool
     requires { length image.now ≡ state_size }
@@ -62,10 +55,7 @@ pub fn readable(image: &[u8]) -> Result<(), DpeErrorCode>
         return Err(DpeErrorCode::Added(AddedErrorCode::BadLength));
     }
     for slot in 0..MAX_HANDLES {
-        let answer = image_kinds::answer_at(image, CONTEXTS_AT + image_context::SIZE * slot);
-        let Ok(()) = answer else {
-            return answer;
-        };
+        image_kinds::answer_at(image, CONTEXTS_AT + image_context::SIZE * slot)?;
     }
     Ok(())
 }

@@ -1,4 +1,5 @@
 -- Laws of the two bytes: what reading them answers, and the words of contexts, joined. Assumes nothing.
+use Rattle.std.specs.Result.{result_and}
 use Rattle.std.specs.Prelude.{Result, Ok, Err}
 use mathlib.Core.Path.{◌≡◌, refl, sym, ap, ap₂, ◌∙◌}
 use mathlib.Core.Bool.{Bool, true, false, cond, ◌&&◌}
@@ -10,49 +11,50 @@ use borrow.Author.Tests.{ltb-true, lt-ltb, le-ltb}
 use lib.Dec.{ltb}
 use lib.Bits.{bit_or, or_lt, or_mod, or_add_and, and_le_l, and_le_r}
 use lib.ListN.{get_or}
+use Rattle.error.specs.Numbers.{done}
 use Rattle.error.specs.declared.DpeErrorCode.{DpeErrorCode}
 use Rattle.children.proofs.Cases.{and-true, and_both, and_right}
 use Rattle.wire.specs.Le.{part}
 use Rattle.wire.proofs.Part.{get_d_part}
-use Rattle.image_kinds.specs.Kinds.{context_size, state_byte_in, type_byte_in, state_answer, type_answer, first, context_answer, is_good, kind_word, good_word}
+use Rattle.image_kinds.specs.Kinds.{context_size, state_byte_in, type_byte_in, state_answer, type_answer, context_answer, is_good, kind_word, good_word}
 
 -- ---- what reading a context answers
 
-pub first_done : (a b : Result Unit DpeErrorCode) → first a b ≡ Ok tt → (a ≡ Ok tt) × (b ≡ Ok tt)
+pub first_done : (a b : Result Unit DpeErrorCode) → result_and a b ≡ done → (a ≡ done) × (b ≡ done)
 first_done (Ok tt) b h = (refl, h)
 first_done (Err e) b h = absurd (let z : ◌≡◌ {A = ℕ} 0 1 = cc in omega arith)
 
 module _ (e : DpeErrorCode) where
-  fine : (t : Bool) → cond t (Ok tt) (Err e) ≡ Ok tt → t ≡ true
+  fine : (t : Bool) → cond t done (Err e) ≡ done → t ≡ true
   fine true h = refl
   fine false h = absurd (let z : ◌≡◌ {A = ℕ} 0 1 = cc in omega arith)
 
 module _ (l : List ℕ) where
-  pub done-bytes : context_answer l ≡ Ok tt → (state_byte_in l < 3) × (type_byte_in l < 2)
+  pub done-bytes : context_answer l ≡ done → (state_byte_in l < 3) × (type_byte_in l < 2)
   unfolding context_answer
   done-bytes h =
       let w = first_done (state_answer (state_byte_in l)) (type_answer (type_byte_in l)) h in
       (ltb-true _ _ (fine _ _ w.0), ltb-true _ _ (fine _ _ w.1))
 
-  pub bytes_done : state_byte_in l < 3 → type_byte_in l < 2 → context_answer l ≡ Ok tt
+  pub bytes_done : state_byte_in l < 3 → type_byte_in l < 2 → context_answer l ≡ done
   unfolding context_answer
   bytes_done s t = rw (lt-ltb _ _ s, lt-ltb _ _ t)
 
-  pub done_good : context_answer l ≡ Ok tt → is_good l ≡ true
+  pub done_good : context_answer l ≡ done → is_good l ≡ true
   unfolding is_good
   done_good h = let w = done-bytes h in and_both (lt-ltb _ _ w.0) (lt-ltb _ _ w.1)
 
   -- a good context is read
-  pub good_done : is_good l ≡ true → context_answer l ≡ Ok tt
+  pub good_done : is_good l ≡ true → context_answer l ≡ done
   unfolding is_good
   good_done h = let w = and-true _ _ h in bytes_done (ltb-true _ _ w.0) (ltb-true _ _ w.1)
 
 -- the same, by the bytes of a longer list
-pub answer-is : (l : List ℕ) (at : ℕ) {a b r : Result Unit DpeErrorCode} → a ≡ state_answer (get_or l (at + 138) 0) → b ≡ type_answer (get_or l (at + 137) 0) → r ≡ first a b
+pub answer-is : (l : List ℕ) (at : ℕ) {a b r : Result Unit DpeErrorCode} → a ≡ state_answer (get_or l (at + 138) 0) → b ≡ type_answer (get_or l (at + 137) 0) → r ≡ result_and a b
     → r ≡ context_answer (part at context_size l)
 unfolding context_answer
 answer-is l at p q e =
-    e ∙ ap₂ first (p ∙ ap state_answer (sym (get_d_part at context_size 138 l (omega arith)))) (q ∙ ap type_answer (sym (get_d_part at context_size 137 l (omega arith))))
+    e ∙ ap₂ result_and (p ∙ ap state_answer (sym (get_d_part at context_size 138 l (omega arith)))) (q ∙ ap type_answer (sym (get_d_part at context_size 137 l (omega arith))))
 
 -- ---- the words of contexts, joined
 

@@ -1,5 +1,7 @@
 -- The type byte and the state byte of a context of the image, and what reading them answers. Assumes nothing: these are definitions.
+use Rattle.error.specs.Numbers.{done}
 use Rattle.error.specs.declared.DpeErrorCode.{DpeErrorCode}
+use Rattle.std.specs.Result.{result_and}
 use Rattle.std.specs.Prelude.{ℕ, ◌+◌, ◌*◌, ◌%◌, Bool, cond, ◌&&◌, List, get_or, ltb, Result, Ok, Err}
 use Rattle.error.specs.declared.DpeErrorCode.TheVariants.{Validation}
 use Rattle.error.specs.declared.ValidationError.TheVariants.{BadContextState, BadContextType}
@@ -17,19 +19,14 @@ state_byte_in l = get_or l 138 0
 
 -- a state byte is 0 to 2, and a type byte 0 or 1
 abbrev pub state_answer : ℕ → Result Unit DpeErrorCode
-state_answer b = cond (ltb b 3) (Ok tt) (Err (Validation BadContextState))
+state_answer b = cond (ltb b 3) done (Err (Validation BadContextState))
 
 abbrev pub type_answer : ℕ → Result Unit DpeErrorCode
-type_answer b = cond (ltb b 2) (Ok tt) (Err (Validation BadContextType))
-
--- the first refusal of two answers
-abbrev pub first : Result Unit DpeErrorCode → Result Unit DpeErrorCode → Result Unit DpeErrorCode
-first (Ok tt) b = b
-first (Err e) b = Err e
+type_answer b = cond (ltb b 2) done (Err (Validation BadContextType))
 
 -- what reading a context answers: the state byte is tested, and then the type byte
 unfoldable pub context_answer : List ℕ → Result Unit DpeErrorCode
-context_answer l = first (state_answer (state_byte_in l)) (type_answer (type_byte_in l))
+context_answer l = result_and (state_answer (state_byte_in l)) (type_answer (type_byte_in l))
 
 -- both bytes are in range
 unfoldable pub is_good : List ℕ → Bool

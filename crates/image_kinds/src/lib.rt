@@ -3,7 +3,7 @@
 
 ghost use Rattle.std.specs.Prelude.{◌≡◌, ◌+◌, ◌≤◌, length};
 ghost use Rattle.wire.specs.Le.{part};
-ghost use Rattle.image_kinds.specs.Kinds.{context_size, state_answer, type_answer, first, context_answer, kind_word, good_word};
+ghost use Rattle.image_kinds.specs.Kinds.{context_size, state_answer, type_answer, context_answer, kind_word, good_word};
 
 use error::{DpeErrorCode, ValidationError};
 
@@ -32,16 +32,6 @@ fn type_answer(b: u8) -> Result<(), DpeErrorCode>
     Ok(())
 }
 
-// The first refusal of two answers.
-fn first_of(a: Result<(), DpeErrorCode>, b: Result<(), DpeErrorCode>) -> Result<(), DpeErrorCode>
-    ensures { result ≡ first a b }
-{
-    match a {
-        Ok(()) => b,
-        Err(_) => a,
-    }
-}
-
 // What reading the context at `at` answers.
 pub fn answer_at(image: &[u8], at: usize) -> Result<(), DpeErrorCode>
     requires { at + context_size ≤ length image.now }
@@ -49,7 +39,7 @@ pub fn answer_at(image: &[u8], at: usize) -> Result<(), DpeErrorCode>
 {
     let s = state_answer(image[at + STATE_AT]);
     let t = type_answer(image[at + CONTEXT_TYPE_AT]);
-    first_of(s, t)
+    s.and(t)
 }
 
 // The type byte and the state byte of the context at `at` as one word, with one state more: a good context has less than four.

@@ -7,6 +7,7 @@ use mathlib.Core.List.{List}
 use Prim.Native.Nat.{ℕ, ◌<◌}
 use native.Mathlib.Decide.{dec_lt}
 use native.Mathlib.Omega.{arith}
+use Rattle.error.specs.Numbers.{done}
 use Rattle.error.specs.declared.DpeErrorCode.{DpeErrorCode}
 use Rattle.error.specs.declared.DpeErrorCode.TheVariants.{ArgumentNotSupported, InvalidArgument, MaxTcis}
 use Rattle.children.specs.Below.{lowest}
@@ -73,7 +74,7 @@ module _ (t : State) (l i : ℕ) (b : List ℕ) (ch : Chosen) (is : ch ≡ chose
       let h : ch.handle ≡ default_handle = rw is (untaken slot_count (slot_of t.contexts) b e (rw is at a)).handle in
       rw (← is, a, h)
 
-  pub chosen : ch.answer ≡ Ok tt
+  pub chosen : ch.answer ≡ done
       → ◌≡◌ {A = NewHandle} (record { answer = ch.answer; handle = ch.handle; state = with_slot t i (active_context (root_args Simulation ch.handle l false)) }) (simulation_of t l i b)
   chosen a = rw (← is, a)
 
@@ -148,7 +149,7 @@ module _ (t : State) (flags l : ℕ) (b : List ℕ) where
     ]
 
     as-simulation : (i : ℕ) → free_in slot_count (slot_of t.contexts) ≡ Ok i → marked flags init_default_bit ≡ false
-        → (chosen_in slot_count (slot_of t.contexts) b).answer ≡ Ok tt → AsSimulation t flags l b
+        → (chosen_in slot_count (slot_of t.contexts) b).answer ≡ done → AsSimulation t flags l b
     as-simulation i p d a = record {
       slot = i;
       free = free-is slot_count (slot_of t.contexts) i p;

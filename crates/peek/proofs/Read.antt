@@ -1,11 +1,11 @@
 -- What is read off a slot of the image, or off the words behind the slots, is what the table says. Assumes nothing.
-use Rattle.std.specs.Prelude.{Ok}
 use mathlib.Core.Path.{◌≡◌, refl, sym, ap, ◌∙◌}
 use mathlib.Core.List.{List}
 use Prim.Native.Nat.{ℕ, ◌+◌, ◌*◌, ◌<◌}
 use native.Mathlib.Omega.{arith}
 use lib.Dec.{eqb}
 use lib.ListN.{get_or}
+use Rattle.error.specs.Numbers.{done}
 use Rattle.children.specs.Marks.{slot_count}
 use Rattle.wire.specs.Le.{part, le}
 use Rattle.wire.proofs.Part.{part-part, get_d_part}
@@ -31,7 +31,7 @@ module _ (l : List ℕ) (i : ℕ) (h : i < slot_count) where
       ∙ sym (ap (λ (c : Context). c.handle) (state-slot l i h))
 
   -- the slot is in the state that b says just where b is its state byte
-  pub in_state : readable_of l ≡ Ok tt → (b : ℕ) → b < 3 → is_in_state (slot_of (decode_state l).contexts) (state_of b) i ≡ eqb (get_or l (contexts_at + context_size * i + 138) 0) b
+  pub in_state : readable_of l ≡ done → (b : ℕ) → b < 3 → is_in_state (slot_of (decode_state l).contexts) (state_of b) i ≡ eqb (get_or l (contexts_at + context_size * i + 138) 0) b
   unfolding decode_context
   in_state r b k =
       let e = get_d_part (contexts_at + context_size * i) context_size 138 l (omega arith) in

@@ -1,5 +1,6 @@
 // Slots looked for in a lent image, and counted. state.rs.
-ghost use Rattle.std.specs.Prelude.{◌≡◌, ◌<◌, length, Ok};
+ghost use Rattle.std.specs.Prelude.{◌≡◌, ◌<◌, length};
+ghost use Rattle.error.specs.Numbers.{done};
 ghost use Rattle.children.specs.Marks.{slot_count};
 ghost use Rattle.context.specs.Context.{slot_of};
 ghost use Rattle.table.specs.State.{count_in, free_in};
@@ -37,7 +38,7 @@ pub fn get_active_context_pos(image: &[u8], handle: [u8; handle::SIZE], locality
 
 // How many contexts are in a state, given as its byte.
 pub fn count_contexts(image: &[u8], state: u8) -> usize
-    requires { (readable_of image.now ≡ Ok tt) × (state < 3) }
+    requires { (readable_of image.now ≡ done) × (state < 3) }
     ensures { result ≡ count_in slot_count (slot_of (decode_state image.now).contexts) (state_of state) }
 {
     let mut found: usize = 0;

@@ -1,5 +1,5 @@
 -- What a lent image holds after a call that writes it, way by way. Assumes nothing.
-use Rattle.std.specs.Prelude.{Ok, Err}
+use Rattle.std.specs.Prelude.{Err}
 use mathlib.Core.List.{List}
 use mathlib.Core.Path.{◌≡◌, sym, ap, ◌∙◌}
 use Prim.Native.Nat.{ℕ}
@@ -7,6 +7,7 @@ use native.Mathlib.Omega.{arith}
 use lib.ListN.{get_or}
 use mir.Syntax.{w8}
 use mir.Val.{Fits}
+use Rattle.error.specs.Numbers.{done}
 use Rattle.error.specs.declared.DpeErrorCode.{DpeErrorCode}
 use Rattle.wire.specs.Le.{Bytes}
 use Rattle.table.specs.declared.state.State.{State}
@@ -32,5 +33,5 @@ module _ (n : NewHandle) (l : List ℕ) where
   pub after_refused : (e : DpeErrorCode) → n.answer ≡ Err e → l ≡ image_after n l
   after_refused e q = rw q
 
-  pub after_done : (l' : List ℕ) → n.answer ≡ Ok tt → l' ≡ encode_state n.state → l' ≡ image_after n l
+  pub after_done : (l' : List ℕ) → n.answer ≡ done → l' ≡ encode_state n.state → l' ≡ image_after n l
   after_done l' q e = rw q e

@@ -1,5 +1,6 @@
 -- What a lent image holds after a call that changes the table. Assumes nothing: these are definitions.
-use Rattle.std.specs.Prelude.{List, ◌≡◌, ℕ, Ok}
+use Rattle.std.specs.Prelude.{List, ◌≡◌, ℕ}
+use Rattle.error.specs.Numbers.{done}
 use Rattle.table.specs.declared.state.State.{State}
 use Rattle.table.specs.declared.state.NewHandle.{NewHandle}
 use Rattle.candidates.specs.declared.Chosen.{Chosen}
@@ -9,7 +10,7 @@ use Rattle.tell.specs.Tell.{bytes_place}
 
 -- the bytes l are an image that reads, and its table is t
 abbrev pub Holds : List ℕ → State → Type 0
-Holds l t = (readable_of l ≡ Ok tt) × (decode_state l ≡ t)
+Holds l t = (readable_of l ≡ done) × (decode_state l ≡ t)
 
 -- the image after a call that answers a table and a handle, and what the call answers beside the table
 abbrev pub image_after : NewHandle → List ℕ → List ℕ

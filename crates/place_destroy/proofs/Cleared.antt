@@ -1,11 +1,12 @@
 -- What a lent image holds after a destroy, way by way, and a slot where a set is cleared. Assumes nothing.
-use Rattle.std.specs.Prelude.{Ok, Err}
+use Rattle.std.specs.Prelude.{Err}
 use mathlib.Core.Bool.{true, false}
 use mathlib.Core.List.{List}
 use mathlib.Core.Path.{◌≡◌, ap, ◌∙◌}
 use Prim.Native.Nat.{ℕ}
 use lib.ListN.{length}
 use lib.Seq.{set-get_or}
+use Rattle.error.specs.Numbers.{done}
 use Rattle.error.specs.declared.DpeErrorCode.{DpeErrorCode}
 use Rattle.children.specs.Marks.{slot_count, marked, without}
 use Rattle.children.proofs.Below.{length-list_of}
@@ -22,7 +23,7 @@ module _ (d : Destroyed) (l : List ℕ) where
   pub gone_refused : (e : DpeErrorCode) → d.answer ≡ Err e → l ≡ destroyed_after d l
   gone_refused e q = rw q
 
-  pub gone_done : (l' : List ℕ) → d.answer ≡ Ok tt → l' ≡ encode_state d.state → l' ≡ destroyed_after d l
+  pub gone_done : (l' : List ℕ) → d.answer ≡ done → l' ≡ encode_state d.state → l' ≡ destroyed_after d l
   gone_done l' q e = rw q e
 
 -- ---- the slots of a table that was read

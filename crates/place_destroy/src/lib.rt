@@ -2,7 +2,8 @@
 // `destroy_context` has the name of the one by value, which says what it means.
 #![tactic(auto)]
 
-ghost use Rattle.std.specs.Prelude.{◌<◌, ◌≡◌, length, Ok};
+ghost use Rattle.std.specs.Prelude.{◌<◌, ◌≡◌, length};
+ghost use Rattle.error.specs.Numbers.{done};
 ghost use Rattle.children.specs.Marks.{slot_count};
 ghost use Rattle.context.specs.Context.{slot_of};
 ghost use Rattle.table.specs.State.{with_slot};
@@ -18,7 +19,7 @@ use peek_walks::{down, up};
 
 // The slot is cleared where the set has it, and else loses the marks of the set; marks that stay the same are not written.
 fn clear_slot(image: &mut [u8], slot: usize, set: u64)
-    requires { (readable_of image.old ≡ Ok tt) × (slot < slot_count) }
+    requires { (readable_of image.old ≡ done) × (slot < slot_count) }
     ensures { Holds image.new (with_slot (decode_state image.old) slot (cleared_slot set slot (slot_of (decode_state image.old).contexts slot))) }
 {
     if children::has_child(set, slot) {
@@ -35,7 +36,7 @@ fn clear_slot(image: &mut [u8], slot: usize, set: u64)
 
 // Every slot so.
 fn clear(image: &mut [u8], set: u64)
-    requires { readable_of image.old ≡ Ok tt }
+    requires { readable_of image.old ≡ done }
     ensures { image.new ≡ encode_state (cleared_by (decode_state image.old) set) }
 {
     for i in 0..MAX_HANDLES {
@@ -62,7 +63,7 @@ fn doomed(image: &[u8], slot: usize) -> Result<u64, DpeErrorCode>
 
 // Destroys the active context of a locality that has a handle.
 pub fn destroy_context(image: &mut [u8], handle: [u8; handle::SIZE], locality: u32) -> Result<(), DpeErrorCode>
-    requires { readable_of image.old ≡ Ok tt }
+    requires { readable_of image.old ≡ done }
     ensures value { result ≡ (destroy_of (decode_state image.old) handle locality).answer }
     ensures image_after { image.new ≡ destroyed_after (destroy_of (decode_state image.old) handle locality) image.old }
 {

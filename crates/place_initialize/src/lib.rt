@@ -2,7 +2,8 @@
 // `initialize_context` has the name of the one by value, which says what it means.
 #![tactic(auto)]
 
-ghost use Rattle.std.specs.Prelude.{◌<◌, ◌≡◌, Ok};
+ghost use Rattle.std.specs.Prelude.{◌<◌, ◌≡◌};
+ghost use Rattle.error.specs.Numbers.{done};
 ghost use Rattle.children.specs.Marks.{slot_count};
 ghost use Rattle.image.specs.State.{decode_state, encode_state, readable_of};
 ghost use Rattle.initialize_context.specs.Initialize.{default_in, simulation_of, initialized_of};
@@ -17,7 +18,7 @@ use table::flags;
 
 // The default context in slot i.
 fn initialize_default(image: &mut [u8], i: usize, locality: u32) -> Chosen
-    requires { (readable_of image.old ≡ Ok tt) × (i < slot_count) }
+    requires { (readable_of image.old ≡ done) × (i < slot_count) }
     ensures value { result ≡ chosen_of (default_in (decode_state image.old) locality i) }
     ensures image_after { image.new ≡ encode_state (default_in (decode_state image.old) locality i).state }
 {
@@ -33,7 +34,7 @@ fn initialize_default(image: &mut [u8], i: usize, locality: u32) -> Chosen
 
 // A simulation context in slot i, with a candidate for its handle.
 fn initialize_simulation(image: &mut [u8], i: usize, locality: u32, candidates: &[u8]) -> Chosen
-    requires { (readable_of image.old ≡ Ok tt) × (i < slot_count) }
+    requires { (readable_of image.old ≡ done) × (i < slot_count) }
     ensures value { result ≡ chosen_of (simulation_of (decode_state image.old) locality i candidates.now) }
     ensures image_after { image.new ≡ image_after (simulation_of (decode_state image.old) locality i candidates.now) image.old }
 {
@@ -50,7 +51,7 @@ fn initialize_simulation(image: &mut [u8], i: usize, locality: u32, candidates: 
 
 // The lowest inactive slot becomes the default context, or a simulation context.
 pub fn initialize_context(image: &mut [u8], flags: u32, locality: u32, candidates: &[u8]) -> Chosen
-    requires { readable_of image.old ≡ Ok tt }
+    requires { readable_of image.old ≡ done }
     ensures value { result ≡ chosen_of (initialized_of (decode_state image.old) flags locality candidates.now) }
     ensures image_after { image.new ≡ image_after (initialized_of (decode_state image.old) flags locality candidates.now) image.old }
 {

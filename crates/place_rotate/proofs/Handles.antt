@@ -1,4 +1,5 @@
 -- What rotate answers beside the table, and the table where it succeeds. Assumes nothing.
+use Rattle.error.specs.Numbers.{done}
 use Rattle.error.specs.declared.DpeErrorCode.{DpeErrorCode}
 use Rattle.std.specs.Prelude.{Result, Ok, Err}
 use mathlib.Core.Bool.{Bool, true, false, cond}
@@ -20,7 +21,7 @@ use Rattle.rotate_context.proofs.Rotate as rotate
 use Rattle.place.specs.Place.{chosen_of}
 
 -- a choice that succeeded
-taken_is : (ch : Chosen) → ch.answer ≡ Ok tt → ch ≡ taken_of ch.handle
+taken_is : (ch : Chosen) → ch.answer ≡ done → ch ≡ taken_of ch.handle
 taken_is ch a = ap (λ (o : Result Unit DpeErrorCode). record { answer = o; handle = ch.handle }) a
 
 module _ (t : State) (l flags : ℕ) (b : List ℕ) (i : ℕ) where
@@ -40,23 +41,23 @@ module _ (t : State) (l flags : ℕ) (b : List ℕ) (i : ℕ) where
       → taken_of default_handle ≡ chosen_of (rotated_at t l flags b (Ok i))
   new-default d o = rw (d, o)
 
-  chosen_state : (h : List ℕ) (o : Result Unit DpeErrorCode) → (to_chosen t i h o).answer ≡ Ok tt
+  chosen_state : (h : List ℕ) (o : Result Unit DpeErrorCode) → (to_chosen t i h o).answer ≡ done
       → with_slot t i (with_handle (slot_of t.contexts i) (to_chosen t i h o).handle) ≡ (to_chosen t i h o).state
   chosen_state h (Ok tt) a = refl
   chosen_state h (Err e) a = never_done (sym a)
 
-  default_state : (o : Bool) → (cond o (refused_of t InvalidArgument) (rotated_to t i default_handle)).answer ≡ Ok tt
+  default_state : (o : Bool) → (cond o (refused_of t InvalidArgument) (rotated_to t i default_handle)).answer ≡ done
       → with_slot t i (with_handle (slot_of t.contexts i) (cond o (refused_of t InvalidArgument) (rotated_to t i default_handle)).handle)
       ≡ (cond o (refused_of t InvalidArgument) (rotated_to t i default_handle)).state
   default_state true a = never_done (sym a)
   default_state false a = refl
 
-  either_state : (m : Bool) → (cond m (to_default t l i) (to_candidate t i b)).answer ≡ Ok tt
+  either_state : (m : Bool) → (cond m (to_default t l i) (to_candidate t i b)).answer ≡ done
       → with_slot t i (with_handle (slot_of t.contexts i) (cond m (to_default t l i) (to_candidate t i b)).handle) ≡ (cond m (to_default t l i) (to_candidate t i b)).state
   either_state true a = default_state (occupied slot_count (slot_of t.contexts) l i) a
   either_state false a = chosen_state (chosen_in slot_count (slot_of t.contexts) b).handle (chosen_in slot_count (slot_of t.contexts) b).answer a
 
   -- where rotate succeeds, the handle of slot i is the one that it answers, and nothing else changes
-  pub rotated_state : (rotated_at t l flags b (Ok i)).answer ≡ Ok tt
+  pub rotated_state : (rotated_at t l flags b (Ok i)).answer ≡ done
       → with_slot t i (with_handle (slot_of t.contexts i) (rotated_at t l flags b (Ok i)).handle) ≡ (rotated_at t l flags b (Ok i)).state
   rotated_state a = either_state (marked flags rotate_default_bit) a

@@ -2,7 +2,8 @@
 // `rotate_context` has the name of the one by value, which says what it means.
 #![tactic(auto)]
 
-ghost use Rattle.std.specs.Prelude.{◌<◌, not, ◌&&◌, ◌||◌, ◌≡◌, length, Ok};
+ghost use Rattle.std.specs.Prelude.{◌<◌, not, ◌&&◌, ◌||◌, ◌≡◌, length};
+ghost use Rattle.error.specs.Numbers.{done};
 ghost use Rattle.children.specs.Marks.{slot_count};
 ghost use Rattle.handle.specs.Handle.{is_default};
 ghost use Rattle.context.specs.Context.{slot_of};
@@ -66,7 +67,7 @@ pub fn rotate_context(
     flags: u32,
     candidates: &[u8],
 ) -> Chosen
-    requires { readable_of image.old ≡ Ok tt }
+    requires { readable_of image.old ≡ done }
     ensures value { result ≡ chosen_of (rotated_of (decode_state image.old) handle locality flags candidates.now) }
     ensures image_after { image.new ≡ image_after (rotated_of (decode_state image.old) handle locality flags candidates.now) image.old }
 {

@@ -6,6 +6,7 @@ use mathlib.Core.List.{List}
 use mathlib.Core.Logic.{◌⊎◌}
 use Prim.Native.Nat.{ℕ, ◌<◌}
 use native.Mathlib.Omega.{arith}
+use Rattle.error.specs.Numbers.{done}
 use Rattle.error.specs.declared.DpeErrorCode.{DpeErrorCode}
 use Rattle.error.specs.declared.DpeErrorCode.TheVariants.{InternalError, InvalidHandle, InvalidLocality}
 use Rattle.error.specs.declared.InternalErrorCode.TheVariants.{DestroyParentIndexOob}
@@ -58,7 +59,7 @@ module _ (t : State) where
     unfolding run_from told_of
     run-told = ap (told_of (InternalError DestroyParentIndexOob)) both.run_is
 
-    destroy-at : (h : List ℕ) (l : ℕ) → lookup_in slot_count s h l ≡ Ok i → destroy_of t h l ≡ record { answer = Ok tt; state = cleared_by t word }
+    destroy-at : (h : List ℕ) (l : ℕ) → lookup_in slot_count s h l ≡ Ok i → destroy_of t h l ≡ record { answer = done; state = cleared_by t word }
     destroy-at h l e =
         found_at t h l i e ∙ both_walked t i v.slot both.run_set both.down run-told (told-down slot_count s i both.down v.slot both.down_is)
 
@@ -82,7 +83,7 @@ module _ (t : State) where
 
 pub destroy_clears : (t : State) → Words slot_count (slot_of t.contexts) → Forest t → (h : List ℕ) (l i : ℕ)
     → lookup_in slot_count (slot_of t.contexts) h l ≡ Ok i
-    → ((destroy_of t h l).answer ≡ Ok tt) × DestroyedAt t i (destroy_of t h l).state × Forest (destroy_of t h l).state
+    → ((destroy_of t h l).answer ≡ done) × DestroyedAt t i (destroy_of t h l).state × Forest (destroy_of t h l).state
 destroy_clears t W F h l i e =
     let v = found-live t h l i ((found_iff slot_count (slot_of t.contexts) h l i).0 e) in
     rw (destroy-at t W F i v h l e) (refl, clears t W F i v, clears_yes t W F i v)

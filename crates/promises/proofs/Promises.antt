@@ -1,7 +1,7 @@
 -- All promises of a table. Words says that each stored word of children is below 2 ^ 64, as a u64 is: every table that code holds meets it.
 -- Assumes nothing else.
-use Rattle.std.specs.Prelude.{Ok}
 use mathlib.Core.Path.{◌≡◌}
+use Rattle.error.specs.Numbers.{done}
 use Rattle.children.specs.Marks.{slot_count}
 use Rattle.table.specs.declared.state.State.{State}
 use Rattle.context.specs.Context.{slot_of}
@@ -28,5 +28,5 @@ promises t W F = record {
 }
 
 -- the same, where the validator says yes
-pub yes_promises : (t : State) → Words slot_count (slot_of t.contexts) → verdict_of t ≡ Ok tt → Promises t
+pub yes_promises : (t : State) → Words slot_count (slot_of t.contexts) → verdict_of t ≡ done → Promises t
 yes_promises t W e = promises t W ((yes_iff t).0 e)

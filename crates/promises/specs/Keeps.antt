@@ -1,6 +1,7 @@
 -- What is promised of every table that the validator says yes to, in document 01's words and the rule's: no walk stands in it. A table is a
 -- function s from a slot to its context, and n is the number of slots. Assumes nothing: these are definitions.
 use Rattle.std.specs.Prelude.{◌≡◌, List, ◌≢◌, ◌⊎◌, ◌↔◌, true, ℕ, suc, ◌-◌, ◌^◌, ◌≤◌, ◌<◌, length, get_or, Ok, Err}
+use Rattle.error.specs.Numbers.{done}
 use Rattle.error.specs.declared.DpeErrorCode.{DpeErrorCode}
 use Rattle.error.specs.declared.DpeErrorCode.TheVariants.{InvalidHandle, InvalidLocality}
 use Rattle.children.specs.Marks.{slot_count, mark_count, marked, count_below}
@@ -96,7 +97,7 @@ pub record PathTo (n : ℕ) (s : ℕ → Context) (i : ℕ) (p : Path) : Type 0 
 pub record Promises (t : State) : Type 0 where
   -- a destroy that finds its context succeeds, clears exactly what goes with it, and leaves a yes
   pub destroy_clears : (h : List ℕ) (l i : ℕ) → lookup_in slot_count (slot_of t.contexts) h l ≡ Ok i
-      → ((destroy_of t h l).answer ≡ Ok tt) × DestroyedAt t i (destroy_of t h l).state × Forest (destroy_of t h l).state
+      → ((destroy_of t h l).answer ≡ done) × DestroyedAt t i (destroy_of t h l).state × Forest (destroy_of t h l).state
   -- one that finds none refuses as the lookup does, and changes nothing
   pub destroy_refuses : (h : List ℕ) (l : ℕ) (e : DpeErrorCode) → lookup_in slot_count (slot_of t.contexts) h l ≡ Err e
       → ((destroy_of t h l).answer ≡ Err e) × ((destroy_of t h l).state ≡ t)

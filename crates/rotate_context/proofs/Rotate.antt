@@ -6,6 +6,7 @@ use mathlib.Core.Bool.{Bool, true, false, not, ◌&&◌, ◌||◌}
 use mathlib.Core.List.{List}
 use Prim.Native.Nat.{ℕ, ◌+◌, ◌<◌}
 use lib.Dec.{eqb}
+use Rattle.error.specs.Numbers.{done}
 use Rattle.error.specs.declared.DpeErrorCode.{DpeErrorCode}
 use Rattle.error.specs.declared.DpeErrorCode.TheVariants.{InvalidCommand, InvalidArgument}
 use Rattle.children.specs.Below.{some}
@@ -106,7 +107,7 @@ module _ (t : State) (i : ℕ) (b : List ℕ) (ch : Chosen) (is : ch ≡ chosen_
       let h : ch.handle ≡ default_handle = rw is (untaken slot_count (slot_of t.contexts) b e (rw is at a)).handle in
       rw (← is, a, h)
 
-  pub chosen : ch.answer ≡ Ok tt → rotated_to t i ch.handle ≡ to_candidate t i b
+  pub chosen : ch.answer ≡ done → rotated_to t i ch.handle ≡ to_candidate t i b
   chosen a = rw (← is, a)
 
 -- ---- the tests in their order
@@ -144,7 +145,7 @@ module _ (t : State) (h : List ℕ) (l flags : ℕ) (b : List ℕ) where
   module _ (ok : not (marked t.support rotate_bit) ≡ false) where
     by_choice : (i : ℕ) → lookup_in slot_count (slot_of t.contexts) h l ≡ Ok i → marked flags rotate_default_bit ≡ false
         → (o : Result Unit DpeErrorCode) → (chosen_in slot_count (slot_of t.contexts) b).answer ≡ o → Ended t h l flags b
-    by_choice i p d (Ok tt) a =
+    by_choice i p d done a =
         to_taken i ((found_iff slot_count (slot_of t.contexts) h l i).0 p) (chosen_in slot_count (slot_of t.contexts) b).handle
         (taken slot_count (slot_of t.contexts) b a) (to_candidate_lem t h l flags b ok i p d ∙ rw a)
     by_choice i p d (Err e) a = unchanged e (to_candidate_lem t h l flags b ok i p d ∙ rw a)

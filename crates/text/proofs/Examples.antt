@@ -1,8 +1,9 @@
 -- Listings written out: document 01's example, and a refusal. Assumes nothing.
-use Rattle.std.specs.Prelude.{Ok, Err}
+use Rattle.std.specs.Prelude.{Err}
 use mathlib.Core.Bool.{false}
 use mathlib.Core.Path.{◌≡◌, refl}
 use mathlib.Core.List.{[], ◌∷◌}
+use Rattle.error.specs.Numbers.{done}
 use Rattle.error.specs.declared.DpeErrorCode.TheVariants.{Validation}
 use Rattle.error.specs.declared.ValidationError.TheVariants.{CyclesInTree}
 use Rattle.children.specs.Below.{count}
@@ -32,7 +33,7 @@ example_table = with_slot (new_state 0 0) 0 (active_context (record {
 }))
 
 -- `verdict 0 0` and `0 1 0 7 255 0`
-example_listing : text_of (Ok tt) (slot_of example_table.contexts)
+example_listing : text_of done (slot_of example_table.contexts)
     ≡ 118 ∷ 101 ∷ 114 ∷ 100 ∷ 105 ∷ 99 ∷ 116 ∷ 32 ∷ 48 ∷ 32 ∷ 48 ∷ 10 ∷ 48 ∷ 32 ∷ 49 ∷ 32 ∷ 48 ∷ 32 ∷ 55 ∷ 32 ∷ 50 ∷ 53 ∷ 53 ∷ 32 ∷ 48 ∷ 10 ∷ []
 unfolding text_of lines_for verdict_line rows_to line_of row_of number_then decimal_of decimal_from count marked example_table
 example_listing = refl

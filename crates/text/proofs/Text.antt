@@ -1,5 +1,5 @@
 -- Laws of the listing's text: its lines one behind another, and the whole. Assumes nothing.
-use Rattle.std.specs.Prelude.{Result, Ok, Err}
+use Rattle.std.specs.Prelude.{Result, Err}
 use Prim.Native.Nat.{ℕ, ◌+◌, ◌≤◌}
 use mathlib.Core.Path.{◌≡◌, refl, sym, ap, ap₂, ◌∙◌}
 use mathlib.Core.Bool.{true, false}
@@ -10,7 +10,7 @@ use lib.ListN.{length}
 use lib.Seq.{length-take-le}
 use Rattle.io.specs.Counts.{IsPrefixLen}
 use Rattle.error.specs.declared.DpeErrorCode.{DpeErrorCode}
-use Rattle.error.specs.Numbers.{outer_of, inner_of}
+use Rattle.error.specs.Numbers.{outer_of, inner_of, done}
 use Rattle.children.specs.Marks.{slot_count}
 use Rattle.wire.specs.Le.{put}
 use Rattle.wire.proofs.Put.{put-nil}
@@ -73,12 +73,12 @@ module _ (l : List ℕ) where
       ap₂ verdict_line p r ∙ sym (append-nil _) ∙ sym (ap (λ (o : Result Unit DpeErrorCode). text_of o (slot_of (decode_state l).contexts)) q)
 
   -- and the rows follow it for a yes
-  pub listing_yes : validate_at l ≡ Ok tt → verdict_line 0 0 ++ rows_to (slot_of (decode_state l).contexts) slot_count ≡ listing_of l
+  pub listing_yes : validate_at l ≡ done → verdict_line 0 0 ++ rows_to (slot_of (decode_state l).contexts) slot_count ≡ listing_of l
   unfolding listing_of text_of lines_for
   listing_yes q = sym (ap (λ (o : Result Unit DpeErrorCode). text_of o (slot_of (decode_state l).contexts)) q)
 
   -- what has a yes is as long as an image
-  pub yes-size : validate_at l ≡ Ok tt → length l ≡ state_size
+  pub yes-size : validate_at l ≡ done → length l ≡ state_size
   yes-size q = readable-size l (first_done (readable_of l) (outcome_of (verdict_of (decode_state l))) q).0
 
 -- the listing of a table's image is that of the table
@@ -86,7 +86,7 @@ pub listing-written : (t : State) → Fits t → listing_of (encode_state t) ≡
 unfolding listing_of
 listing-written t f =
     let l : List ℕ = encode_state t in
-    let r : readable_of l ≡ Ok tt = sym (read_answer l) ∙ ap (λ (x : StateRead). x.answer) (write_read t f) in
+    let r : readable_of l ≡ done = sym (read_answer l) ∙ ap (λ (x : StateRead). x.answer) (write_read t f) in
     let v : validate_at l ≡ outcome_of (verdict_of t)
     = ap (λ (x : Result Unit DpeErrorCode). first x (outcome_of (verdict_of (decode_state l)))) r ∙ ap (λ (x : State). outcome_of (verdict_of x)) (state_again t f) in
     ap (λ (x : Result Unit DpeErrorCode). text_of x (slot_of (decode_state l).contexts)) v ∙ ap (λ (x : State). text_of (outcome_of (verdict_of t)) (slot_of x.contexts)) (state_again t f)

@@ -1,6 +1,6 @@
 -- `destroy_context::destroy_slot` meets its contract. Assumes nothing.
-use Rattle.std.specs.Prelude.{Ok}
 use mathlib.Core.Path.{sym, ap, ◌∙◌}
+use Rattle.error.specs.Numbers.{done}
 use Rattle.table.specs.declared.state.State.{State}
 use Rattle.context.specs.Context.{slot_of}
 use Rattle.walks.specs.Walks.{why_of}
@@ -20,5 +20,5 @@ pub returns : goal.returns
 returns c =
     let a = c.args in
     let l = c.links_of-l in
-    ap (λ (u : State). record { answer = Ok tt; state = u }) c.cleared.ensures
+    ap (λ (u : State). record { answer = done; state = u }) c.cleared.ensures
     ∙ sym (slot_cleared a.t a.slot _ (sym (doomed_summary (slot_of a.t.contexts) l.result l.ensures a.slot) ∙ sym c.doomed-gone.ensures ∙ c.in-Marks.is))

@@ -1,16 +1,18 @@
 -- `peek_validate::validate_image` meets its contract. Assumes nothing.
-use Rattle.std.specs.Prelude.{Result, Ok, Err}
+use Rattle.std.specs.Result.{result_and}
+use Rattle.std.specs.Prelude.{Result, Err}
 use mathlib.Core.Path.{◌≡◌, sym, ap, ◌∙◌}
+use Rattle.error.specs.Numbers.{done}
 use Rattle.error.specs.declared.DpeErrorCode.{DpeErrorCode}
 use Rattle.image_kinds.specs.Kinds.{first}
 use Rattle.image.proofs.Reading.{readable-size, readable_done, not_readable}
 use Rattle.verdict.specs.Tests.{outcome_of}
 use Rattle.peek_validate.proofs.validate_image.Goals as goal
 
-unread : (o a : Result Unit DpeErrorCode) (x : DpeErrorCode) → o ≡ Err x → first o a ≡ o
+unread : (o a : Result Unit DpeErrorCode) (x : DpeErrorCode) → o ≡ Err x → result_and o a ≡ o
 unread o a x q = rw q
 
-read : (o a : Result Unit DpeErrorCode) → o ≡ Ok tt → first o a ≡ a
+read : (o a : Result Unit DpeErrorCode) → o ≡ done → result_and o a ≡ a
 read o a q = rw q
 
 pub returns-then-not-is_readable : goal.returns-then-not-is_readable

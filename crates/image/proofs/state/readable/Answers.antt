@@ -2,6 +2,7 @@
 use native.Mathlib.Omega.{arith}
 use Prim.Native.Nat.{ℕ}
 use mathlib.Core.Path.{◌≡◌, refl, sym, ap, ◌∙◌}
+use Rattle.error.proofs.Exits.{passed_on}
 use Rattle.children.specs.Marks.{slot_count}
 use Rattle.image.specs.State.{slots_answer}
 use Rattle.image.proofs.Reading.{read_short, read-slots, slots_on, slots_stop}
@@ -14,19 +15,15 @@ pub loop-slot-init : goal.loop-slot-init
 unfolding slots_answer
 loop-slot-init c = (omega arith, refl)
 
-pub returns-in_default : goal.returns-in_default
-returns-in_default c =
+pub returns-in_err-answer_at : goal.returns-in_err-answer_at
+returns-in_err-answer_at c =
     let l = c.loop-slot in
-    let r = c.answer_at-answer in
-    c.in_default.is
-    ∙ sym (slots_stop c.args.image.now _ l.slot slot_count (omega arith) l.invariant.1 (sym r.ensures ∙ c.in_default.is))
+    passed_on _ c.from_residual.ensures.1
+    ∙ sym (slots_stop c.args.image.now _ l.slot slot_count (omega arith) l.invariant.1 (sym c.in_err-answer_at.ensures))
     ∙ read-slots c.args.image.now (omega arith)
 
 pub loop-slot-preserved : goal.loop-slot-preserved
-loop-slot-preserved c =
-    let l = c.loop-slot in
-    let r = c.answer_at-answer in
-    (omega arith, slots_on c.args.image.now l.slot l.invariant.1 (sym r.ensures ∙ c.in-Done.is))
+loop-slot-preserved c = let l = c.loop-slot in (omega arith, slots_on c.args.image.now l.slot l.invariant.1 (sym c.in_ok-answer_at.ensures))
 
 pub returns : goal.returns
 returns c =

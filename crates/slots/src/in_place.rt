@@ -1,0 +1,90 @@
+// The bytes of an image, read and written where they lie.
+ghost use Rattle.std.specs.Prelude.{◌≡◌};
+ghost use Rattle.error.specs.Numbers.{done};
+ghost use Rattle.image.specs.State.{decode_state, readable_of};
+
+use crate::{Slots, SlotsMut};
+use context::{Context, ContextState, ContextType, u8bool};
+use image::state;
+use image::state::{CONTEXTS_AT, SIZE};
+
+// The bytes of a whole image.
+pub type Image = [u8; SIZE];
+
+impl Slots for Image {
+    ghost state = { decode_state };
+
+    fn marker(&self) -> u32 {
+        wire::read_u32(self, state::MARKER_AT)
+    }
+
+    fn version(&self) -> u32 {
+        wire::read_u32(self, state::VERSION_AT)
+    }
+
+    fn support(&self) -> u32 {
+        wire::read_u32(self, state::SUPPORT_AT)
+    }
+
+    fn has_initialized(&self) -> u8 {
+        self[state::HAS_INITIALIZED_AT]
+    }
+
+    fn state_at(&self, i: usize) -> ContextState {
+        image_context::state_of(self[CONTEXTS_AT + image_context::SIZE * i + image_kinds::STATE_AT])
+    }
+
+    fn context_type_at(&self, i: usize) -> ContextType {
+        let at = CONTEXTS_AT + image_context::SIZE * i;
+        image_context::type_of(self[at + image_kinds::CONTEXT_TYPE_AT])
+    }
+
+    fn locality_at(&self, i: usize) -> u32 {
+        let at = CONTEXTS_AT + image_context::SIZE * i;
+        wire::read_u32(self, at + image_context::LOCALITY_AT)
+    }
+
+    fn parent_at(&self, i: usize) -> u8 {
+        self[CONTEXTS_AT + image_context::SIZE * i + image_context::PARENT_IDX_AT]
+    }
+
+    fn children_at(&self, i: usize) -> u64 {
+        let at = CONTEXTS_AT + image_context::SIZE * i;
+        wire::read_u64(self, at + image_context::CHILDREN_AT)
+    }
+
+    fn handle_at(&self, i: usize) -> [u8; handle::SIZE] {
+        let at = CONTEXTS_AT + image_context::SIZE * i;
+        wire::read_16(self, at + image_context::HANDLE_AT)
+    }
+
+    fn context_at(&self, i: usize) -> Context {
+        let at = CONTEXTS_AT + image_context::SIZE * i;
+        let end = at + image_context::SIZE;
+        image_context::read_context(&self[at..end])
+    }
+}
+
+impl SlotsMut for Image {
+    ghost Reads = { λ l. readable_of l ≡ done };
+
+    fn put_handle(&mut self, i: usize, handle: [u8; handle::SIZE]) {
+        let at = CONTEXTS_AT + image_context::SIZE * i;
+        wire::write_run(self, at + image_context::HANDLE_AT, &handle);
+    }
+
+    fn put_children(&mut self, i: usize, children: u64) {
+        let at = CONTEXTS_AT + image_context::SIZE * i;
+        wire::write_u64(self, at + image_context::CHILDREN_AT, children);
+    }
+
+    fn put_context(&mut self, i: usize, c: Context) {
+        let at = CONTEXTS_AT + image_context::SIZE * i;
+        let end = at + image_context::SIZE;
+        image_write::write_context(&mut self[at..end], c);
+    }
+
+    fn put_initialized(&mut self) {
+        self[state::HAS_INITIALIZED_AT] = u8bool::new(true);
+    }
+}
