@@ -21,12 +21,13 @@ pub fn new_invalid() -> [u8; SIZE]
 }
 
 // Whether two handles are the same. Every byte is looked at, whatever the others were.
+#[tactic(auto, unfolding(crate::specs::Handle::same_bytes))]
 pub fn equals(a: [u8; SIZE], b: [u8; SIZE]) -> bool
     ensures { result ≡ same_bytes a b }
 {
     let mut same = true;
-    for i in 0..SIZE {
-        same = same & (a[i] == b[i]);
+    for (x, y) in a.iter().zip(b.iter()) {
+        same &= x == y;
     }
     same
 }

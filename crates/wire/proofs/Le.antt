@@ -1,19 +1,17 @@
 -- Laws of little-endian numbers. Assumes nothing.
 use mathlib.Core.Path.{◌≡◌, refl, sym, ap, subst, ◌∙◌}
 use mathlib.Core.List.{List, [], ◌∷◌, ◌++◌}
-use Prim.Native.Nat.{ℕ, zero, suc, ◌+◌, ◌*◌, ◌/◌, ◌%◌, ◌^◌, ◌≤◌, ◌<◌}
-use native.Mathlib.Nat.{mul_assoc, pow-suc, pow-succ', zero-add, suc-add, div-one, div-div-eq-div-mul}
-use native.Mathlib.Numerals.{add-one}
+use Prim.Native.Nat.{ℕ, zero, suc, ◌+◌, ◌-◌, ◌*◌, ◌/◌, ◌%◌, ◌^◌, ◌≤◌, ◌<◌}
+use native.Mathlib.Nat.{mul_assoc, mul_comm, not-suc-le-zero, pow-suc, pow-succ'}
 use native.Mathlib.Omega.{arith}
-use lib.Arith.{digits_div, digits_mod, mod-mul}
 use lib.Dec.{lit<}
-use lib.ListN.{length, take, drop, get_or, set}
-use lib.Seq.{get_or-drop}
-use mir.Syntax.{w8}
+use lib.ListN.{length, take, drop, get_or}
+use lib.Seq.{get_or-drop, take-suc, take-length, length-take-le}
 use mir.Val.{Fits}
+use Rattle.std.specs.Int.{Width, w8, w16, w32, w64, w128, byte_len, byte_worth, sum_through, from_le_bytes}
+use Rattle.std.specs.Prelude.{slice_index}
 use Rattle.wire.specs.Le.{part, put, le, le_bytes, Bytes}
-use Rattle.wire.proofs.Part.{length_part, part-cons, part-add}
-use Rattle.wire.proofs.Put.{put_sets, put_next}
+use Rattle.wire.proofs.Part.{length_part}
 
 -- ---- runs of bytes
 
@@ -73,28 +71,8 @@ le-append (x ∷ a) b =
     let e : 256 ^ suc (length a) * le b ≡ 256 * (256 ^ length a * le b) = rw (pow-succ' 256 (length a), mul_assoc) in
     omega arith
 
-pub le_split : (n m at : ℕ) (l : List ℕ) → at + n ≤ length l → le (part at (n + m) l) ≡ le (part at n l) + 256 ^ n * le (part (at + n) m l)
-le_split n m at l h =
-    ap le (part-add at n m l) ∙ le-append (part at n l) (part (at + n) m l)
-    ∙ ap (λ (k : ℕ). le (part at n l) + 256 ^ k * le (part (at + n) m l)) (length_part at n l h)
-
-pub le-two : (at : ℕ) (l : List ℕ) → at + 2 ≤ length l → le (part at 2 l) ≡ get_or l at 0 + 256 * get_or l (at + 1) 0
-unfolding le
-le-two at l h =
-    let e : part at 2 l ≡ get_or l at 0 ∷ get_or l (at + 1) 0 ∷ []
-    = part-cons at 1 l (omega arith) ∙ ap (λ (r : List ℕ). get_or l at 0 ∷ r) (part-cons (at + 1) 0 l (omega arith)) in
-    ap le e ∙ omega arith
-
 bytes_tail : {x : ℕ} {l : List ℕ} → Bytes (x ∷ l) → (x < 256) × Bytes l
 bytes_tail b = (b.each 0, record { each = λ i. b.each (suc i) })
-
-pub le-small : (l : List ℕ) → Bytes l → le l < 256 ^ length l
-unfolding le
-le-small [] h = lit< tt
-le-small (x ∷ l) h =
-    let b : x < 256 = (bytes_tail h).0 in
-    let ih : le l < 256 ^ length l = le-small l (bytes_tail h).1 in
-    rw (pow-suc 256 (length l)) (omega arith)
 
 -- ---- the bytes of a number
 
@@ -123,42 +101,31 @@ le_bytes-le (x ∷ l) h =
 pub number_back : (l : List ℕ) (at n : ℕ) → Bytes l → at + n ≤ length l → le_bytes n (le (part at n l)) ≡ part at n l
 number_back l at n h f = ap (λ (k : ℕ). le_bytes k (le (part at n l))) (sym (length_part at n l f)) ∙ le_bytes-le (part at n l) (bytes-part at n h)
 
-pow-256_pos : (n : ℕ) → 0 < 256 ^ n
-pow-256_pos zero = lit< tt
-pow-256_pos (suc n) = let h : 0 < 256 ^ n = pow-256_pos n in rw (pow-suc 256 n) (omega arith)
+-- ---- std's numbers of bytes
 
-le_bytes-mod : (n x : ℕ) → le_bytes n (x % 256 ^ n) ≡ le_bytes n x
-unfolding le_bytes
-le_bytes-mod zero x = refl
-le_bytes-mod (suc n) x =
-    let q : ℕ = x / 256 % 256 ^ n in
-    let b : x % 256 < 256 = omega arith in
-    let e : x % 256 ^ suc n ≡ q * 256 + x % 256 = ap (λ (k : ℕ). x % k) (pow-suc 256 n) ∙ mod-mul x (pow-256_pos n) (lit< tt) in
-    rw (e, digits_div q b, digits_mod q b) (ap (λ (r : List ℕ). x % 256 ∷ r) (le_bytes-mod n (x / 256)))
+sum_front : (l : List ℕ) (n : ℕ) → n < length l → sum_through (λ i. byte_worth i (slice_index l i)) n ≡ le (take (suc n) l)
+unfolding le
+sum_front [] zero h = absurd (not-suc-le-zero h)
+sum_front (x ∷ l) zero h = omega arith
+sum_front l (suc n) h =
+    let b : ℕ = get_or l (suc n) 0 in
+    let e : le (take (suc (suc n)) l) ≡ le (take (suc n) l) + 256 ^ suc n * le (b ∷ [])
+    = ap le (take-suc l (suc n) 0 h) ∙ le-append (take (suc n) l) (b ∷ [])
+    ∙ ap (λ (k : ℕ). le (take (suc n) l) + 256 ^ k * le (b ∷ [])) (length-take-le (suc n) l (omega arith)) in
+    let one : le (b ∷ []) ≡ b = omega arith in
+    let m : 256 ^ suc n * le (b ∷ []) ≡ b * 256 ^ suc n = ap (λ (k : ℕ). 256 ^ suc n * k) one ∙ mul_comm (256 ^ suc n) b in
+    ap (λ (k : ℕ). k + b * 256 ^ suc n) (sum_front l n (omega arith)) ∙ ap (λ (k : ℕ). le (take (suc n) l) + k) (sym m) ∙ sym e
 
-le_bytes-add : (n m x : ℕ) → le_bytes (n + m) x ≡ le_bytes n x ++ le_bytes m (x / 256 ^ n)
-unfolding le_bytes
-le_bytes-add zero m x = rw (zero-add, div-one)
-le_bytes-add (suc n) m x =
-    rw (suc-add) (ap (λ (r : List ℕ). x % 256 ∷ r)
-    (le_bytes-add n m (x / 256) ∙ ap (λ (k : ℕ). le_bytes n (x / 256) ++ le_bytes m k) (div-div-eq-div-mul x 256 (256 ^ n) ∙ ap (λ (k : ℕ). x / k) (sym (pow-succ' 256 n)))))
+byte_len_pos : (w : Width) → 0 < byte_len w
+byte_len_pos w8 = lit< tt
+byte_len_pos w16 = lit< tt
+byte_len_pos w32 = lit< tt
+byte_len_pos w64 = lit< tt
+byte_len_pos w128 = lit< tt
 
--- the bytes of a number are those of its low part and then of its high part
-le_bytes-halves : (n m x : ℕ) → le_bytes (n + m) x ≡ le_bytes n (x % 256 ^ n) ++ le_bytes m (x / 256 ^ n)
-le_bytes-halves n m x = le_bytes-add n m x ∙ ap (λ (r : List ℕ). r ++ le_bytes m (x / 256 ^ n)) (sym (le_bytes-mod n x))
-
--- ---- a number put by its two bytes, and by its two halves
-
-pub put_two : (at x : ℕ) (l : List ℕ) → at + 2 ≤ length l → x < 65536 → set (set l at (x % 256)) (at + 1) (x / 256) ≡ put at (le_bytes 2 x) l
-unfolding le_bytes
-put_two at x l h f =
-    let e : x / 256 ≡ x / 256 % 256 = omega arith in
-    ap (λ (k : ℕ). set (set l at (x % 256)) k (x / 256)) (add-one at)
-    ∙ ap (λ (v : ℕ). set (set l at (x % 256)) (suc at) v) e
-    ∙ put_sets at (x % 256 ∷ x / 256 % 256 ∷ []) l h
-
-pub put-halves : (n m at x : ℕ) (l : List ℕ) {l' l'' : List ℕ} → at + n + m ≤ length l
-    → l' ≡ put at (le_bytes n (x % 256 ^ n)) l → l'' ≡ put (at + n) (le_bytes m (x / 256 ^ n)) l' → l'' ≡ put at (le_bytes (n + m) x) l
-put-halves n m at x l h p q =
-    put_next at n (le_bytes n (x % 256 ^ n)) (le_bytes m (x / 256 ^ n)) l (length-le_bytes n _) (omega (arith, length-le_bytes m (x / 256 ^ n))) p q
-    ∙ ap (λ (w : List ℕ). put at w l) (sym (le_bytes-halves n m x))
+-- the number of some bytes, as std reads them
+pub le_std : (w : Width) (l : List ℕ) → length l ≡ byte_len w → from_le_bytes w l ≡ le l
+le_std w l h =
+    let pos : 0 < byte_len w = byte_len_pos w in
+    let n : suc (byte_len w - 1) ≡ length l = omega arith in
+    sum_front l (byte_len w - 1) (omega arith) ∙ ap (λ (k : ℕ). le (take k l)) n ∙ ap le (take-length l)

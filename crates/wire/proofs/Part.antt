@@ -1,12 +1,13 @@
 -- Laws of the parts of a list. Assumes nothing.
-use mathlib.Core.Path.{◌≡◌, refl, sym, ap, ◌∙◌}
-use mathlib.Core.List.{List, [], ◌∷◌, ◌++◌, append-nil}
-use Prim.Native.Nat.{ℕ, zero, suc, ◌+◌, ◌-◌, ◌≤◌, ◌<◌}
-use native.Mathlib.Nat.{add-zero, zero-add, suc-add}
+use mathlib.Core.Path.{◌≡◌, sym, ap, ◌∙◌}
+use mathlib.Core.List.{List, ◌∷◌, ◌++◌, append-nil}
+use Prim.Native.Nat.{ℕ, suc, ◌+◌, ◌-◌, ◌≤◌, ◌<◌}
+use native.Mathlib.Nat.{add-zero}
 use native.Mathlib.Numerals.{add-one}
 use native.Mathlib.Omega.{arith}
-use lib.ListN.{length, take, drop, get_or, replicate, length-drop}
-use lib.Seq.{take-nil, take-take, take-length, drop-length, drop-cons, take-add, drop-drop, length-take-le, take-append-le, drop-append-le, take_at, drop_at, get_or-drop, get_or-take}
+use lib.ListN.{length, take, drop, get_or, length-drop}
+use lib.Seq.{take-take, take-length, drop-length, drop-cons, take-add, drop-drop, length-take-le, take-append-le, drop-append-le, take_at, drop_at, get_or-drop, get_or-take}
+use Rattle.std.proofs.lemmas.List.{drop-take}
 use Rattle.wire.specs.Le.{part}
 
 pub length_part : (at n : ℕ) (l : List ℕ) → at + n ≤ length l → length (part at n l) ≡ n
@@ -39,11 +40,6 @@ module _ (l : List ℕ) where
       (ap (λ (k : ℕ). get_or l k 0) (sym (add-zero at)) ∙ sym (get_or-drop at l 0 0) ∙ ap (λ (k : List ℕ). get_or k 0 0) h, sym (drop-drop 1 at l) ∙ ap (drop 1) h)
 
 -- a part of a part is a part
-pub drop-take : (m n : ℕ) (l : List ℕ) → drop m (take (m + n) l) ≡ take n (drop m l)
-drop-take zero n l = ap (λ (k : ℕ). take k l) (zero-add n)
-drop-take (suc m) n [] = ap (λ (k : ℕ). drop (suc m) (take k [])) (suc-add m n) ∙ sym (take-nil n)
-drop-take (suc m) n (x ∷ l) = ap (λ (k : ℕ). drop (suc m) (take k (x ∷ l))) (suc-add m n) ∙ drop-take m n l
-
 pub part-part : (at n m k : ℕ) (l : List ℕ) → m + k ≤ n → part m k (part at n l) ≡ part (at + m) k l
 part-part at n m k l h =
     let e : n ≡ m + (n - m) = omega arith in
@@ -54,20 +50,6 @@ part-part at n m k l h =
 pub part_front : (at n : ℕ) (a b : List ℕ) → at + n ≤ length a → part at n (a ++ b) ≡ part at n a
 part_front at n a b h =
     ap (take n) (drop-append-le at a b (omega arith)) ∙ take-append-le n (drop at a) b (simp length-drop (omega arith))
-
--- a part of a list that is all one element
-drop_same : (m n x : ℕ) → drop m (replicate (m + n) x) ≡ replicate n x
-drop_same zero n x = ap (λ (k : ℕ). replicate k x) (zero-add n)
-drop_same (suc m) n x = ap (λ (k : ℕ). drop (suc m) (replicate k x)) (suc-add m n) ∙ drop_same m n x
-
-take_same : (m n x : ℕ) → take m (replicate (m + n) x) ≡ replicate m x
-take_same zero n x = refl
-take_same (suc m) n x = ap (λ (k : ℕ). take (suc m) (replicate k x)) (suc-add m n) ∙ ap (λ (r : List ℕ). x ∷ r) (take_same m n x)
-
-pub part_same : (at n k x : ℕ) → at + n ≤ k → part at n (replicate k x) ≡ replicate n x
-part_same at n k x h =
-    let e : k ≡ at + (n + (k - at - n)) = omega arith in
-    ap (λ (j : ℕ). part at n (replicate j x)) e ∙ ap (take n) (drop_same at (n + (k - at - n)) x) ∙ take_same n (k - at - n) x
 
 -- a copy over a list that is as long
 pub copied : (d v l : List ℕ) → length d ≡ length v → l ≡ take (length v) v ++ drop (length v) d → l ≡ v

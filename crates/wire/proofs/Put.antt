@@ -8,8 +8,9 @@ use native.Mathlib.Omega.{arith}
 use borrow.Rule.Slice.PartMut.{put_mid}
 use lib.ListN.{length, take, drop, get_or, length-append, length-drop, take-append-drop}
 use lib.Seq.{drop-length, take-take, drop-drop, length-take-le, take_at, drop_at, sets, sets-eq, take-append-add, drop-append-le}
+use Rattle.std.proofs.lemmas.List.{drop-take}
 use Rattle.wire.specs.Le.{part, put}
-use Rattle.wire.proofs.Part.{get_d_part, part-part, part_front, drop-take}
+use Rattle.wire.proofs.Part.{get_d_part, part-part, part_front}
 
 length_head : (at : ℕ) (v l : List ℕ) → at + length v ≤ length l → length (take at l ++ v) ≡ at + length v
 length_head at v l h = length-append (take at l) v ∙ ap (λ (k : ℕ). k + length v) (length-take-le at l (omega arith))

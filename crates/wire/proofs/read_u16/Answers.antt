@@ -1,8 +1,10 @@
 -- `wire::read_u16` meets its contract. Assumes nothing.
-use native.Mathlib.Omega.{arith}
-use Rattle.wire.proofs.Le.{le-two}
+use mathlib.Core.Path.{ap, ◌∙◌}
+use Rattle.std.proofs.Common.{rules}
+use Rattle.std.specs.Int.{w16}
+use Rattle.wire.specs.Le.{le}
+use Rattle.wire.proofs.Le.{le_std}
 use Rattle.wire.proofs.read_u16.Goals as goal
 
 pub returns : goal.returns
-returns c =
-    omega (arith, le-two c.args.at c.args.s.now c.requires)
+returns c = c.from_le_bytes.ensures ∙ le_std w16 c.read_array.result (search rules) ∙ ap le c.read_array.ensures

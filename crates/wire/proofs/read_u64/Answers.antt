@@ -1,8 +1,10 @@
 -- `wire::read_u64` meets its contract. Assumes nothing.
-use native.Mathlib.Omega.{arith}
-use Rattle.wire.proofs.Le.{le_split}
+use mathlib.Core.Path.{ap, ◌∙◌}
+use Rattle.std.proofs.Common.{rules}
+use Rattle.std.specs.Int.{w64}
+use Rattle.wire.specs.Le.{le}
+use Rattle.wire.proofs.Le.{le_std}
 use Rattle.wire.proofs.read_u64.Goals as goal
 
 pub returns : goal.returns
-returns c =
-    omega (arith, le_split 4 4 c.args.at c.args.s.now (omega arith))
+returns c = c.from_le_bytes.ensures ∙ le_std w64 c.read_array.result (search rules) ∙ ap le c.read_array.ensures
