@@ -67,8 +67,8 @@ fn read_tci(s: &[u8]) -> TciNodeData
     ensures { result ≡ decode_tci s.now }
 {
     let tci_type = wire::read_u32(s, TCI_TYPE_AT);
-    let tci_cumulative = wire::read_48(s, TCI_CUMULATIVE_AT);
-    let tci_current = wire::read_48(s, TCI_CURRENT_AT);
+    let tci_cumulative = wire::read_array(s, TCI_CUMULATIVE_AT);
+    let tci_current = wire::read_array(s, TCI_CURRENT_AT);
     let locality = wire::read_u32(s, TCI_LOCALITY_AT);
     let svn = wire::read_u32(s, SVN_AT);
     TciNodeData {
@@ -85,7 +85,7 @@ pub fn read_context(s: &[u8]) -> Context
     requires { length s.now ≡ context_size }
     ensures { result ≡ decode_context s.now }
 {
-    let handle = wire::read_16(s, HANDLE_AT);
+    let handle = wire::read_array(s, HANDLE_AT);
     let tci = read_tci(s);
     let children = wire::read_u64(s, CHILDREN_AT);
     let locality = wire::read_u32(s, LOCALITY_AT);

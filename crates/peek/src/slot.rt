@@ -24,7 +24,7 @@ pub fn handle_at(image: &[u8], slot: usize) -> [u8; handle::SIZE]
     requires { (length image.now ≡ state_size) × (slot < slot_count) }
     ensures { result ≡ (slot_of (decode_state image.now).contexts slot).handle }
 {
-    wire::read_16(
+    wire::read_array(
         image,
         state::CONTEXTS_AT + image_context::SIZE * slot + image_context::HANDLE_AT,
     )

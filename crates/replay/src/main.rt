@@ -93,7 +93,7 @@ fn ask(image: &[u8], h: &[u8]) -> Answer
 {
     let locality = wire::read_u32(h, 8);
     let slot = wire::read_u64(h, 16) as usize;
-    let handle = wire::read_16(h, 24);
+    let handle = wire::read_array(h, 24);
     let mut number = NUMBER;
     let call = h[0];
     if call == 0 {
@@ -127,7 +127,7 @@ fn act(image: &mut [u8], h: &[u8], candidates: &[u8]) -> Answer
 {
     let locality = wire::read_u32(h, 8);
     let flags = wire::read_u32(h, 12);
-    let handle = wire::read_16(h, 24);
+    let handle = wire::read_array(h, 24);
     let mut new_handle = [HANDLE_BYTE; 16];
     let call = h[0];
     if call == 2 {

@@ -55,7 +55,7 @@ impl Slots for Image {
 
     fn handle_at(&self, i: usize) -> [u8; handle::SIZE] {
         let at = CONTEXTS_AT + image_context::SIZE * i;
-        wire::read_16(self, at + image_context::HANDLE_AT)
+        wire::read_array(self, at + image_context::HANDLE_AT)
     }
 
     fn context_at(&self, i: usize) -> Context {
