@@ -1,5 +1,6 @@
 // A table by value.
-ghost use Rattle.std.specs.Prelude.{◌≡◌};
+ghost use Rattle.std.specs.Prelude.{◌≡◌, length};
+ghost use Rattle.children.specs.Marks.{slot_count};
 
 use crate::{Slots, SlotsMut};
 use context::{Context, ContextState, ContextType, u8bool};
@@ -54,7 +55,9 @@ impl Slots for State {
 }
 
 impl SlotsMut for State {
-    ghost Reads = { λ _. Unit {0} };
+    ghost Reads = { λ t. length t.contexts ≡ slot_count };
+
+    ghost all_slots = { λ t h. h };
 
     fn put_handle(&mut self, i: usize, handle: [u8; handle::SIZE]) {
         self.contexts[i].handle = handle;

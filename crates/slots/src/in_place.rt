@@ -2,6 +2,7 @@
 ghost use Rattle.std.specs.Prelude.{◌≡◌};
 ghost use Rattle.error.specs.Numbers.{done};
 ghost use Rattle.image.specs.State.{decode_state, readable_of};
+ghost use Rattle.slots.specs.Image.{table_slots};
 
 use crate::{Slots, SlotsMut};
 use context::{Context, ContextState, ContextType, u8bool};
@@ -67,6 +68,8 @@ impl Slots for Image {
 
 impl SlotsMut for Image {
     ghost Reads = { λ l. readable_of l ≡ done };
+
+    ghost all_slots = { table_slots };
 
     fn put_handle(&mut self, i: usize, handle: [u8; handle::SIZE]) {
         let at = CONTEXTS_AT + image_context::SIZE * i;

@@ -4,7 +4,7 @@
 pub mod by_value;
 pub mod in_place;
 
-ghost use Rattle.std.specs.Prelude.{◌≡◌, ◌<◌, List, ℕ};
+ghost use Rattle.std.specs.Prelude.{◌≡◌, ◌<◌, length};
 ghost use Rattle.children.specs.Marks.{slot_count};
 ghost use Rattle.context.specs.Context.{slot_of, with_handle, with_children};
 ghost use Rattle.table.specs.declared.state.State.{State};
@@ -60,7 +60,7 @@ pub trait Slots {
 
 // What can be written; all else stays.
 pub trait SlotsMut: Slots {
-    // What has to hold where it is written, and holds afterwards: nothing of a table by value; an image reads.
+    // What has to hold where it is written, and holds afterwards: a table has all its slots; an image reads.
     ghost Reads: { Self → Type 0 };
 
     fn put_handle(&mut self, i: usize, handle: [u8; handle::SIZE])
@@ -82,4 +82,6 @@ pub trait SlotsMut: Slots {
         requires { Reads self.old }
         ensures reads { Reads self.new }
         ensures state { Self.state self.new ≡ with_initialized (Self.state self.old) };
+
+    ghost all_slots: { (s : Self) → Reads s → length (Self.state s).contexts ≡ slot_count };
 }
