@@ -3,33 +3,38 @@
 
 ghost use Rattle.std.specs.Prelude.{◌≡◌, ◌<◌};
 ghost use Rattle.children.specs.Marks.{slot_count};
+ghost use Rattle.context.specs.Context.{slot_of};
+ghost use Rattle.table.specs.State.{with_slot};
 ghost use Rattle.clearing.specs.Clearing.{cleared_slot, cleared_by};
 
 use children::MAX_HANDLES;
-use context::Context;
-use table::state::State;
+use slots::SlotsMut;
 
-// The context of slot i: cleared where the set has the slot, and else without the marks of the set.
-fn cleared_slot(c: Context, i: usize, set: u64) -> Context
-    requires { i < slot_count }
-    ensures { result ≡ cleared_slot set i c }
+// The slot i is cleared where the set has it, and else loses the marks of the set; marks that stay the same are not written.
+fn clear_slot<T: SlotsMut>(t: &mut T, i: usize, set: u64)
+    requires { T.Reads t.old × (i < slot_count) }
+    ensures reads { T.Reads t.new }
+    ensures state { T.state t.new ≡ with_slot (T.state t.old) i (cleared_slot set i (slot_of (T.state t.old).contexts i)) }
 {
     if children::has_child(set, i) {
-        return c.destroy();
+        let cleared = t.context_at(i).destroy();
+        t.put_context(i, cleared);
+        return;
     }
-    let children = children::remove_children(c.children, set);
-    Context { children, ..c }
+    let kids = t.children_at(i);
+    let left = children::remove_children(kids, set);
+    if left != kids {
+        t.put_children(i, left);
+    }
 }
 
-// The table with the slots of a set cleared, and their marks taken from every slot.
-pub fn cleared(t: State, set: u64) -> State
-    ensures { result ≡ cleared_by t set }
+// Every slot so.
+pub fn clear<T: SlotsMut>(t: &mut T, set: u64)
+    requires { T.Reads t.old }
+    ensures reads { T.Reads t.new }
+    ensures state { T.state t.new ≡ cleared_by (T.state t.old) set }
 {
-    let mut u = t;
     for i in 0..MAX_HANDLES {
-        let c = u.contexts[i];
-        let d = cleared_slot(c, i, set);
-        u.contexts[i] = d;
+        clear_slot(t, i, set);
     }
-    u
 }

@@ -14,11 +14,8 @@ use Rattle.lookup.specs.Lookup.{lookup_in}
 use Rattle.links.specs.Summary.{live_at, retired_at, parent_at, kids_at}
 use Rattle.walks.specs.Walks.{down_from}
 use Rattle.walks_run.specs.Run.{run_from}
-use Rattle.destroy_context.specs.declared.Destroyed.{Destroyed}
-
--- a refusal: the table as it was
-abbrev pub refused_by : State → DpeErrorCode → Destroyed
-refused_by t e = record { answer = Err e; state = t }
+use Rattle.table.specs.declared.state.Outcome.{Outcome}
+use Rattle.table.specs.State.{refused_of}
 
 -- with the run above and the descendants: the slot, its descendants and the run go
 unfoldable pub on_down : ℕ → ℕ → Result ℕ DpeErrorCode → Result ℕ DpeErrorCode
@@ -39,18 +36,18 @@ abbrev pub doomed_in : ℕ → (ℕ → Context) → ℕ → Result ℕ DpeError
 doomed_in n s slot = doomed_of n (live_at s) (retired_at s) (parent_at s) (kids_at s) slot
 
 -- they are cleared, or the table stays as it was
-unfoldable pub on_doomed : State → Result ℕ DpeErrorCode → Destroyed
+unfoldable pub on_doomed : State → Result ℕ DpeErrorCode → Outcome (Unit {0})
 on_doomed t (Ok set) = record { answer = done; state = cleared_by t set }
-on_doomed t (Err e) = refused_by t e
+on_doomed t (Err e) = refused_of t e
 
 -- destroy of a slot
-unfoldable pub destroy_slot_of : State → ℕ → Destroyed
+unfoldable pub destroy_slot_of : State → ℕ → Outcome (Unit {0})
 destroy_slot_of t slot = on_doomed t (doomed_in slot_count (slot_of t.contexts) slot)
 
-unfoldable pub on_found : State → Result ℕ DpeErrorCode → Destroyed
+unfoldable pub on_found : State → Result ℕ DpeErrorCode → Outcome (Unit {0})
 on_found t (Ok slot) = destroy_slot_of t slot
-on_found t (Err e) = refused_by t e
+on_found t (Err e) = refused_of t e
 
 -- destroy by handle and locality
-unfoldable pub destroy_of : State → List ℕ → ℕ → Destroyed
+unfoldable pub destroy_of : State → List ℕ → ℕ → Outcome (Unit {0})
 destroy_of t h l = on_found t (lookup_in slot_count (slot_of t.contexts) h l)

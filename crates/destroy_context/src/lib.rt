@@ -2,77 +2,66 @@
 #![tactic(auto)]
 
 ghost use Rattle.std.specs.Prelude.{◌≡◌};
-ghost use Rattle.children.specs.Marks.{slot_count, marked};
-ghost use Rattle.links.specs.Summary.{number_in};
-ghost use Rattle.destroy_context.specs.Destroy.{refused_by, doomed_of, destroy_slot_of, destroy_of};
+ghost use Rattle.children.specs.Marks.{slot_count};
+ghost use Rattle.context.specs.Context.{slot_of};
+ghost use Rattle.slots.specs.Ends.{Ends};
+ghost use Rattle.destroy_context.specs.Destroy.{doomed_in, destroy_slot_of, destroy_of};
 
 use children::MAX_HANDLES;
 use error::{DpeErrorCode, InternalErrorCode};
-use links::Links;
-use table::state::State;
+use slots::{Slots, SlotsMut};
+use table::state::{Outcome, State};
 use walks::descendants;
 
-// How a destroy ended, and the table.
-#[derive(Clone, Copy)]
-pub struct Destroyed {
-    pub answer: Result<(), DpeErrorCode>,
-    pub state: State,
-}
-
-// A refusal: the table as it was.
-fn refused(t: State, e: DpeErrorCode) -> Destroyed
-    ensures { result ≡ refused_by t e }
-{
-    Destroyed {
-        answer: Err(e),
-        state: t,
-    }
-}
-
 // The slots that go with a slot, as marks: itself, all that is below it, and the run above it. The walk up comes first.
-fn doomed(l: Links, slot: usize) -> Result<u64, DpeErrorCode>
-    ensures { result ≡ doomed_of slot_count (marked l.live) (marked l.retired) (number_in l.parents) (number_in l.children) slot }
+fn doomed<T: Slots>(t: &T, slot: usize) -> Result<u64, DpeErrorCode>
+    ensures { result ≡ doomed_in slot_count (slot_of (T.state t.now).contexts) slot }
 {
     if slot >= MAX_HANDLES {
         return Err(DpeErrorCode::InternalError(InternalErrorCode::ContextIndexOob));
     }
-    let children = l.children;
-    let parents = l.parents;
-    let start = parents[slot];
-    let above = walks_run::run_above(&children, &parents, l.retired, start);
-    let Ok(retired) = above else {
-        return above;
-    };
-    let below = descendants::descend(&children, l.live, children::empty(), slot, MAX_HANDLES);
-    let Ok(down) = below else {
-        return below;
-    };
+    let retired = walks_run::run_above(t, t.parent_at(slot))?;
+    let down = descendants::descend(t, children::empty(), slot, MAX_HANDLES)?;
     let set = children::add_children(children::with(down, slot), retired);
     Ok(set)
 }
 
 // Destroys the context of a slot.
-pub fn destroy_slot(t: State, slot: usize) -> Destroyed
-    ensures { result ≡ destroy_slot_of t slot }
+pub fn destroy_at<T: SlotsMut>(t: &mut T, slot: usize) -> Result<(), DpeErrorCode>
+    requires { T.Reads t.old }
+    ensures { Ends T.state T.Reads t.old t.new result (destroy_slot_of (T.state t.old) slot) }
 {
-    let l = links::links_of(t);
-    let gone = doomed(l, slot);
-    let Ok(set) = gone else {
-        return refused(t, walks::why(gone));
-    };
-    Destroyed {
-        answer: Ok(()),
-        state: clearing::cleared(t, set),
-    }
+    let set = doomed(t, slot)?;
+    clearing::clear(t, set);
+    Ok(())
 }
 
 // Destroys the active context of a locality that has a handle.
-pub fn destroy_context(t: State, handle: [u8; handle::SIZE], locality: u32) -> Destroyed
+pub fn destroy<T: SlotsMut>(
+    t: &mut T,
+    handle: [u8; handle::SIZE],
+    locality: u32,
+) -> Result<(), DpeErrorCode>
+    requires { T.Reads t.old }
+    ensures { Ends T.state T.Reads t.old t.new result (destroy_of (T.state t.old) handle locality) }
+{
+    let slot = lookup::get_active_context_pos(t, handle, locality)?;
+    destroy_at(t, slot)
+}
+
+// The same by value, of a slot and by handle: the table in, and back.
+pub fn destroy_slot(t: State, slot: usize) -> Outcome<()>
+    ensures { result ≡ destroy_slot_of t slot }
+{
+    let mut state = t;
+    let answer = destroy_at(&mut state, slot);
+    Outcome { answer, state }
+}
+
+pub fn destroy_context(t: State, handle: [u8; handle::SIZE], locality: u32) -> Outcome<()>
     ensures { result ≡ destroy_of t handle locality }
 {
-    let found = lookup::get_active_context_pos(t, handle, locality);
-    let Ok(slot) = found else {
-        return refused(t, lookup::why(found));
-    };
-    destroy_slot(t, slot)
+    let mut state = t;
+    let answer = destroy(&mut state, handle, locality);
+    Outcome { answer, state }
 }

@@ -7,7 +7,7 @@ use Rattle.context.specs.declared.ContextType.{ContextType}
 use Rattle.context.specs.declared.ContextType.TheVariants.{Normal, Simulation}
 use Rattle.context.specs.declared.ActiveContextArgs.{ActiveContextArgs}
 use Rattle.table.specs.declared.state.State.{State}
-use Rattle.table.specs.declared.state.NewHandle.{NewHandle}
+use Rattle.table.specs.declared.state.Outcome.{Outcome}
 use Rattle.handle.specs.Handle.{default_handle}
 use Rattle.context.specs.Bytes.{is_on}
 use Rattle.table.specs.Flags.{simulation_bit, init_simulation_bit, init_default_bit}
@@ -42,26 +42,25 @@ root_args k h l recursive = record {
 }
 
 -- default: slot i is activated with a handle that is all zero, and has_initialized is set
-abbrev pub default_in : State → ℕ → ℕ → NewHandle
+abbrev pub default_in : State → ℕ → ℕ → Outcome (List ℕ)
 default_in t l i = handed_of (with_initialized (with_slot t i (active_context (root_args Normal default_handle l true)))) default_handle
 
--- simulation: slot i is activated with the candidate h, where one was chosen
-abbrev pub simulation_in : State → ℕ → ℕ → List ℕ → Result Unit DpeErrorCode → NewHandle
-simulation_in t l i h (Ok tt) = handed_of (with_slot t i (active_context (root_args Simulation h l false))) h
-simulation_in t l i h (Err e) = refused_of t e
+-- simulation: slot i is activated with the candidate that was chosen
+abbrev pub simulation_in : State → ℕ → ℕ → Result (List ℕ) DpeErrorCode → Outcome (List ℕ)
+simulation_in t l i (Ok h) = handed_of (with_slot t i (active_context (root_args Simulation h l false))) h
+simulation_in t l i (Err e) = refused_of t e
 
 -- simulation: choose a candidate
-abbrev pub simulation_of : State → ℕ → ℕ → List ℕ → NewHandle
-simulation_of t l i b =
-    simulation_in t l i (chosen_in slot_count (slot_of t.contexts) b).handle (chosen_in slot_count (slot_of t.contexts) b).answer
+abbrev pub simulation_of : State → ℕ → ℕ → List ℕ → Outcome (List ℕ)
+simulation_of t l i b = simulation_in t l i (chosen_in slot_count (slot_of t.contexts) b)
 
 -- the lowest inactive slot is activated; there is none: MaxTcis
-abbrev pub activated_in : State → ℕ → ℕ → List ℕ → Result ℕ DpeErrorCode → NewHandle
+abbrev pub activated_in : State → ℕ → ℕ → List ℕ → Result ℕ DpeErrorCode → Outcome (List ℕ)
 activated_in t flags l b (Ok i) = cond (marked flags init_default_bit) (default_in t l i) (simulation_of t l i b)
 activated_in t flags l b (Err e) = refused_of t e
 
 -- in order: ArgumentNotSupported, InvalidArgument, the slot
-unfoldable pub initialized_of : State → ℕ → ℕ → List ℕ → NewHandle
+unfoldable pub initialized_of : State → ℕ → ℕ → List ℕ → Outcome (List ℕ)
 initialized_of t flags l b =
     cond (not_supported t.support t.has_initialized flags) (refused_of t ArgumentNotSupported)
     (cond (both_or_neither flags) (refused_of t InvalidArgument)

@@ -4,12 +4,14 @@
 ghost use Rattle.std.specs.Prelude.{◌≡◌, ◌<◌};
 ghost use Rattle.children.specs.Marks.{slot_count};
 ghost use Rattle.context.specs.Context.{active_context};
+ghost use Rattle.slots.specs.Ends.{Ends};
 ghost use Rattle.initialize_context.specs.Initialize.{not_supported, both_or_neither, root_args, default_in, simulation_of, initialized_of};
 
 use context::{ActiveContextArgs, Context, ContextType, ROOT_INDEX, u8bool};
 use error::DpeErrorCode;
-use table::state::{NewHandle, State};
-use table::{flags, state, support};
+use slots::SlotsMut;
+use table::state::{Outcome, State};
+use table::{flags, support};
 
 // Whether the default context is asked for again, or a simulation that is not supported.
 pub fn not_supported(support: u32, has_initialized: u8, flags: u32) -> bool
@@ -28,7 +30,7 @@ pub fn both_or_neither(flags: u32) -> bool
 }
 
 // A new context with no parent.
-pub fn root(
+fn root(
     context_type: ContextType,
     handle: [u8; handle::SIZE],
     locality: u32,
@@ -52,62 +54,70 @@ pub fn root(
 }
 
 // The default context in slot i.
-fn initialize_default(t: State, i: usize, locality: u32) -> NewHandle
-    requires { i < slot_count }
-    ensures { result ≡ default_in t locality i }
+fn initialize_default<T: SlotsMut>(
+    t: &mut T,
+    i: usize,
+    locality: u32,
+) -> Result<[u8; handle::SIZE], DpeErrorCode>
+    requires { T.Reads t.old × (i < slot_count) }
+    ensures { Ends T.state T.Reads t.old t.new result (default_in (T.state t.old) locality i) }
 {
     let handle = handle::default();
     let c = root(ContextType::Normal, handle, locality, true);
-    let u = state::with_context(t, i, c);
-    let state = state::with_initialized(u);
-    NewHandle {
-        answer: Ok(()),
-        handle,
-        state,
-    }
+    t.put_context(i, c);
+    t.put_initialized();
+    Ok(handle)
 }
 
 // A simulation context in slot i, with a candidate for its handle.
-fn initialize_simulation(t: State, i: usize, locality: u32, candidates: &[u8]) -> NewHandle
-    requires { i < slot_count }
-    ensures { result ≡ simulation_of t locality i candidates.now }
+fn initialize_simulation<T: SlotsMut>(
+    t: &mut T,
+    i: usize,
+    locality: u32,
+    candidates: &[u8],
+) -> Result<[u8; handle::SIZE], DpeErrorCode>
+    requires { T.Reads t.old × (i < slot_count) }
+    ensures { Ends T.state T.Reads t.old t.new result (simulation_of (T.state t.old) locality i candidates.now) }
 {
-    let chosen = candidates::generate_new_handle(t, candidates);
-    let answer = chosen.answer;
-    let handle = chosen.handle;
-    let Ok(()) = answer else {
-        return NewHandle {
-            answer,
-            handle,
-            state: t,
-        };
-    };
+    let handle = candidates::generate_new_handle(t, candidates)?;
     let c = root(ContextType::Simulation, handle, locality, false);
-    let state = state::with_context(t, i, c);
-    NewHandle {
-        answer,
-        handle,
-        state,
-    }
+    t.put_context(i, c);
+    Ok(handle)
 }
 
 // The lowest inactive slot becomes the default context, or a simulation context.
-pub fn initialize_context(t: State, flags: u32, locality: u32, candidates: &[u8]) -> NewHandle
-    ensures { result ≡ initialized_of t flags locality candidates.now }
+pub fn initialize<T: SlotsMut>(
+    t: &mut T,
+    flags: u32,
+    locality: u32,
+    candidates: &[u8],
+) -> Result<[u8; handle::SIZE], DpeErrorCode>
+    requires { T.Reads t.old }
+    ensures { Ends T.state T.Reads t.old t.new result (initialized_of (T.state t.old) flags locality candidates.now) }
 {
-    let support = t.support;
-    let has_initialized = t.has_initialized;
-    if not_supported(support, has_initialized, flags) {
-        return state::refused(t, DpeErrorCode::ArgumentNotSupported);
+    if not_supported(t.support(), t.has_initialized(), flags) {
+        return Err(DpeErrorCode::ArgumentNotSupported);
     }
     if both_or_neither(flags) {
-        return state::refused(t, DpeErrorCode::InvalidArgument);
+        return Err(DpeErrorCode::InvalidArgument);
     }
-    let Ok(i) = state::get_next_inactive_context_pos(t) else {
-        return state::refused(t, DpeErrorCode::MaxTcis);
-    };
+    let i = lookup::get_next_inactive_context_pos(t)?;
     if flags::has_bit(flags, flags::INIT_DEFAULT_BIT) {
         return initialize_default(t, i, locality);
     }
     initialize_simulation(t, i, locality, candidates)
+}
+
+// The same by value: the table in, and back.
+pub fn initialize_context(
+    t: State,
+    flags: u32,
+    locality: u32,
+    candidates: &[u8],
+) -> Outcome<[u8; handle::SIZE]>
+    ensures { result ≡ initialized_of t flags locality candidates.now }
+{
+    let mut state = t;
+    let answer = initialize(&mut state, flags, locality, candidates);
+    Outcome { answer, state }
 }

@@ -1,105 +1,91 @@
 // Rotate the handle of a context. rotate_context.rs.
 #![tactic(auto)]
 
-ghost use Rattle.std.specs.Prelude.{◌≡◌, not, ◌&&◌, ◌||◌, ◌<◌};
+ghost use Rattle.std.specs.Prelude.{◌≡◌, not, ◌&&◌, ◌||◌, ◌<◌, Ok};
 ghost use Rattle.children.specs.Marks.{slot_count};
 ghost use Rattle.handle.specs.Handle.{is_default};
 ghost use Rattle.context.specs.Context.{slot_of};
-ghost use Rattle.lookup.specs.Lookup.{active_of};
-ghost use Rattle.rotate_context.specs.Rotate.{occupied, rotated_to, to_default, to_candidate, rotated_of};
+ghost use Rattle.slots.specs.Ends.{Ends};
+ghost use Rattle.lookup.specs.Lookup.{active_in};
+ghost use Rattle.rotate_context.specs.Rotate.{occupied, rotated_at, rotated_of};
 
 use children::MAX_HANDLES;
-use context::Context;
 use error::DpeErrorCode;
-use table::state::{NewHandle, State};
-use table::{flags, state, support};
+use slots::{Slots, SlotsMut};
+use table::state::{Outcome, State};
+use table::{flags, support};
 
-// Whether a context keeps the locality from a new default: it is active there, and a default, or not the target.
-fn occupies(c: Context, locality: u32, is_target: bool) -> bool
-    ensures { result ≡ (active_of c locality && (is_default c.handle || not is_target)) }
+// Whether a slot keeps the locality from a new default: it is active there, and a default, or not the target.
+fn occupies<T: Slots>(t: &T, i: usize, locality: u32, is_target: bool) -> bool
+    requires { i < slot_count }
+    ensures { result ≡ (active_in (slot_of (T.state t.now).contexts) locality i && (is_default (slot_of (T.state t.now).contexts i).handle || not is_target)) }
 {
-    let h = c.handle;
-    let is_default = handle::is_default(h);
-    lookup::active_in(c, locality) & (is_default | !is_target)
+    let is_default = handle::is_default(t.handle_at(i));
+    lookup::active_in(t, i, locality) & (is_default | !is_target)
 }
 
 // Whether the locality has an active default, the target included, or an active context other than the target.
-fn is_occupied(t: State, locality: u32, target_idx: usize) -> bool
-    ensures { result ≡ occupied slot_count (slot_of t.contexts) locality target_idx }
+fn is_occupied<T: Slots>(t: &T, locality: u32, target_idx: usize) -> bool
+    ensures { result ≡ occupied slot_count (slot_of (T.state t.now).contexts) locality target_idx }
 {
     for j in 0..MAX_HANDLES {
-        let c = t.contexts[j];
-        if occupies(c, locality, j == target_idx) {
+        if occupies(t, j, locality, j == target_idx) {
             return true;
         }
     }
     false
 }
 
-// The table with a new handle in slot i, and nothing else changed.
-fn rotated(t: State, i: usize, handle: [u8; handle::SIZE]) -> NewHandle
-    requires { i < slot_count }
-    ensures { result ≡ rotated_to t i handle }
+// The new handle of slot i: the default one, where the locality has room for it, or a candidate.
+fn new_handle<T: Slots>(
+    t: &T,
+    i: usize,
+    locality: u32,
+    flags: u32,
+    candidates: &[u8],
+) -> Result<[u8; handle::SIZE], DpeErrorCode>
+    ensures { result ≡ (rotated_at (T.state t.now) locality flags candidates.now (Ok i)).answer }
 {
-    let old = t.contexts[i];
-    let c = Context { handle, ..old };
-    let state = state::with_context(t, i, c);
-    NewHandle {
-        answer: Ok(()),
-        handle,
-        state,
+    if !flags::has_bit(flags, flags::ROTATE_TARGET_IS_DEFAULT_BIT) {
+        return candidates::generate_new_handle(t, candidates);
     }
-}
-
-// Slot i becomes the default of the locality, where that has room for one.
-fn rotate_to_default(t: State, i: usize, locality: u32) -> NewHandle
-    requires { i < slot_count }
-    ensures { result ≡ to_default t locality i }
-{
     if is_occupied(t, locality, i) {
-        return state::refused(t, DpeErrorCode::InvalidArgument);
+        return Err(DpeErrorCode::InvalidArgument);
     }
-    rotated(t, i, handle::default())
-}
-
-// Slot i gets a candidate for its handle.
-fn rotate_to_candidate(t: State, i: usize, candidates: &[u8]) -> NewHandle
-    requires { i < slot_count }
-    ensures { result ≡ to_candidate t i candidates.now }
-{
-    let chosen = candidates::generate_new_handle(t, candidates);
-    let answer = chosen.answer;
-    let handle = chosen.handle;
-    let Ok(()) = answer else {
-        return NewHandle {
-            answer,
-            handle,
-            state: t,
-        };
-    };
-    rotated(t, i, handle)
+    Ok(handle::default())
 }
 
 // The context with the handle in the locality gets a new handle: the default one, or a candidate.
+pub fn rotate<T: SlotsMut>(
+    t: &mut T,
+    handle: [u8; handle::SIZE],
+    locality: u32,
+    flags: u32,
+    candidates: &[u8],
+) -> Result<[u8; handle::SIZE], DpeErrorCode>
+    requires { T.Reads t.old }
+    ensures { Ends T.state T.Reads t.old t.new result (rotated_of (T.state t.old) handle locality flags candidates.now) }
+{
+    if !flags::has_bit(t.support(), support::ROTATE_CONTEXT_BIT) {
+        return Err(DpeErrorCode::InvalidCommand);
+    }
+    let i = lookup::get_active_context_pos(t, handle, locality)?;
+    let new = new_handle(t, i, locality, flags, candidates)?;
+    t.put_handle(i, new);
+    Ok(new)
+}
+
+// The same by value: the table in, and back.
 pub fn rotate_context(
     t: State,
     handle: [u8; handle::SIZE],
     locality: u32,
     flags: u32,
     candidates: &[u8],
-) -> NewHandle
+) -> Outcome<[u8; handle::SIZE]>
     ensures { result ≡ rotated_of t handle locality flags candidates.now }
 {
-    let support = t.support;
-    if !flags::has_bit(support, support::ROTATE_CONTEXT_BIT) {
-        return state::refused(t, DpeErrorCode::InvalidCommand);
-    }
-    let found = lookup::get_active_context_pos(t, handle, locality);
-    let Ok(i) = found else {
-        return state::refused(t, lookup::why(found));
-    };
-    if flags::has_bit(flags, flags::ROTATE_TARGET_IS_DEFAULT_BIT) {
-        return rotate_to_default(t, i, locality);
-    }
-    rotate_to_candidate(t, i, candidates)
+    let mut state = t;
+    let answer = rotate(&mut state, handle, locality, flags, candidates);
+    Outcome { answer, state }
 }
