@@ -1,5 +1,5 @@
 -- One context of the state image, from document 01's offsets. Assumes nothing: these are definitions.
-use Rattle.std.specs.Prelude.{ℕ, zero, suc, List, [], ◌∷◌, ◌++◌, get_or, replicate}
+use Rattle.std.specs.Prelude.{ℕ, zero, suc, List, [], ◌∷◌, ◌++◌, get_or}
 use Rattle.wire.specs.Le.{part, le, le_bytes}
 use Rattle.context.specs.declared.tci.TciNodeData.{TciNodeData}
 use Rattle.context.specs.declared.ContextState.{ContextState}
@@ -57,10 +57,6 @@ decode_context l = record {
   allow_export_cdi = get_or l 142 0;
   allow_recursive = get_or l 143 0;
 }
-
--- the context of all zero bytes
-unfoldable pub blank_context : Context
-blank_context = decode_context (replicate context_size 0)
 
 -- ---- written: field after field
 

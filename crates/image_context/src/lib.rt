@@ -3,7 +3,7 @@
 
 ghost use Rattle.std.specs.Prelude.{◌≡◌, length};
 ghost use Rattle.image_kinds.specs.Kinds.{context_size};
-ghost use Rattle.image_context.specs.Context.{state_of, type_of, decode_tci, decode_context, blank_context};
+ghost use Rattle.image_context.specs.Context.{state_of, type_of, decode_tci, decode_context};
 
 use context::tci::TciNodeData;
 use context::{Context, ContextState, ContextType};
@@ -110,17 +110,5 @@ pub fn read_context(s: &[u8]) -> Context
         allow_x509,
         allow_export_cdi,
         allow_recursive,
-    }
-}
-
-// The context of all zero bytes.
-pub fn blank() -> Context
-    ensures { result ≡ blank_context }
-{
-    let c = Context::new();
-    Context {
-        parent_idx: 0,
-        allow_export_cdi: 0,
-        ..c
     }
 }

@@ -5,13 +5,12 @@ ghost use Rattle.std.specs.Prelude.{◌≡◌, length};
 ghost use Rattle.children.specs.Below.{list_of};
 ghost use Rattle.children.specs.Marks.{slot_count};
 ghost use Rattle.wire.specs.Le.{put};
-ghost use Rattle.image.specs.State.{contexts_at, state_size, slot_in, decode_state, blank_state, read_state, encode_slots, write_answer, written};
+ghost use Rattle.image.specs.State.{contexts_at, state_size, slot_in, decode_state, read_state, encode_slots, write_answer, written};
 
 use children::MAX_HANDLES;
 use context::Context;
 use error::{AddedErrorCode, DpeErrorCode};
 use image::state;
-use image::state::StateRead;
 use table::state::State;
 
 // The contexts of an image.
@@ -19,8 +18,7 @@ fn read_contexts(image: &[u8]) -> [Context; MAX_HANDLES]
     requires { length image.now ≡ state_size }
     ensures { result ≡ list_of (slot_in image.now) slot_count }
 {
-    let empty = image_context::blank();
-    let mut contexts = [empty; MAX_HANDLES];
+    let mut contexts = [Context::new(); MAX_HANDLES];
     for i in 0..MAX_HANDLES {
         let a = state::CONTEXTS_AT + image_context::SIZE * i;
         let e = a + image_context::SIZE;
@@ -53,34 +51,12 @@ fn read_whole(image: &[u8]) -> State
     }
 }
 
-// The table of all zero bytes.
-fn blank() -> State
-    ensures { result ≡ blank_state }
-{
-    let empty = image_context::blank();
-    let contexts = [empty; MAX_HANDLES];
-    State {
-        marker: 0,
-        version: 0,
-        contexts,
-        support: 0,
-        flags: 0,
-        has_initialized: 0,
-        reserved: 0,
-    }
-}
-
 // The table of an image, or the first refusal.
-pub fn read_state(image: &[u8]) -> StateRead
+pub fn read_state(image: &[u8]) -> Result<State, DpeErrorCode>
     ensures { result ≡ read_state image.now }
 {
-    let answer = state::readable(image);
-    let Ok(()) = answer else {
-        let state = blank();
-        return StateRead { answer, state };
-    };
-    let state = read_whole(image);
-    StateRead { answer, state }
+    state::readable(image)?;
+    Ok(read_whole(image))
 }
 
 // The contexts, each into its own part of the buffer.

@@ -15,21 +15,14 @@ use image_kinds::{CONTEXT_TYPE_AT, STATE_AT};
 pub fn state_byte(s: ContextState) -> u8
     ensures { result ≡ state_byte s }
 {
-    match s {
-        ContextState::Inactive => 0,
-        ContextState::Active => 1,
-        ContextState::Retired => 2,
-    }
+    s as u8
 }
 
 // The byte of a type.
 pub fn type_byte(t: ContextType) -> u8
     ensures { result ≡ type_byte t }
 {
-    match t {
-        ContextType::Normal => 0,
-        ContextType::Simulation => 1,
-    }
+    t as u8
 }
 
 // The measurements into their place in a context.

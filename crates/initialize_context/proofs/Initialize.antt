@@ -7,7 +7,7 @@ use mathlib.Core.List.{List}
 use Prim.Native.Nat.{ℕ, ◌<◌}
 use native.Mathlib.Decide.{dec_lt}
 use native.Mathlib.Omega.{arith}
-use Rattle.error.specs.Numbers.{done}
+use Rattle.error.proofs.Exits.{same_err, never}
 use Rattle.error.specs.declared.DpeErrorCode.{DpeErrorCode}
 use Rattle.error.specs.declared.DpeErrorCode.TheVariants.{ArgumentNotSupported, InvalidArgument, MaxTcis}
 use Rattle.children.specs.Below.{lowest}
@@ -16,7 +16,7 @@ use Rattle.children.proofs.Cases.{two, clash, and_both, or_left, or_right, or_no
 use Rattle.children.proofs.Below.{low_bare, low_passes}
 use Rattle.context.specs.declared.Context.{Context}
 use Rattle.table.specs.declared.state.State.{State}
-use Rattle.table.specs.declared.state.NewHandle.{NewHandle}
+use Rattle.table.specs.declared.state.Outcome.{Outcome}
 use Rattle.context.specs.declared.ContextType.TheVariants.{Simulation}
 use Rattle.handle.specs.Handle.{default_handle}
 use Rattle.context.specs.Bytes.{is_on}
@@ -24,9 +24,8 @@ use Rattle.table.specs.Flags.{simulation_bit, init_simulation_bit, init_default_
 use Rattle.context.specs.Context.{active_context, slot_of}
 use Rattle.table.specs.State.{idle_at, free_in, refused_of, handed_of, with_slot}
 use Rattle.table.proofs.Slots.{free-at, free_none}
-use Rattle.candidates.specs.declared.Chosen.{Chosen}
 use Rattle.candidates.specs.Candidates.{chosen_in}
-use Rattle.candidates.proofs.Candidates.{same_refused, never_done, Taken, taken, untaken}
+use Rattle.candidates.proofs.Candidates.{Taken, taken}
 use Rattle.initialize_context.specs.Initialize.{root_args, not_supported, both_or_neither, default_in, simulation_of, activated_in, initialized_of}
 
 -- `!(d ^ s)` is both or neither
@@ -41,9 +40,6 @@ pub record Free (n : ℕ) (s : ℕ → Context) (i : ℕ) : Type 0 where
   pub below : i < n
   pub idle : idle_at s i ≡ true
   pub lowest : (j : ℕ) → j < i → idle_at s j ≡ false
-
-never : {A : Type 0} {i : ℕ} {e : DpeErrorCode} → Ok i ≡ Err e → A
-never p = absurd (let z : ◌≡◌ {A = ℕ} 0 1 = cc in omega arith)
 
 module _ (n : ℕ) (s : ℕ → Context) where
   at_low : (i : ℕ) → lowest (idle_at s) n ≡ i → i < n → Free n s i
@@ -67,16 +63,13 @@ module _ (n : ℕ) (s : ℕ → Context) where
 
 -- ---- simulation, with the candidate that was chosen
 
-module _ (t : State) (l i : ℕ) (b : List ℕ) (ch : Chosen) (is : ch ≡ chosen_in slot_count (slot_of t.contexts) b) where
-  pub not_chosen : (e : DpeErrorCode) → ch.answer ≡ Err e
-      → ◌≡◌ {A = NewHandle} (record { answer = ch.answer; handle = ch.handle; state = t }) (simulation_of t l i b)
-  not_chosen e a =
-      let h : ch.handle ≡ default_handle = rw is (untaken slot_count (slot_of t.contexts) b e (rw is at a)).handle in
-      rw (← is, a, h)
+module _ (t : State) (l i : ℕ) (b : List ℕ) where
+  pub not_chosen : (e : DpeErrorCode) → chosen_in slot_count (slot_of t.contexts) b ≡ Err e → simulation_of t l i b ≡ refused_of t e
+  not_chosen e a = rw a
 
-  pub chosen : ch.answer ≡ done
-      → ◌≡◌ {A = NewHandle} (record { answer = ch.answer; handle = ch.handle; state = with_slot t i (active_context (root_args Simulation ch.handle l false)) }) (simulation_of t l i b)
-  chosen a = rw (← is, a)
+  pub chosen : (h : List ℕ) → chosen_in slot_count (slot_of t.contexts) b ≡ Ok h
+      → simulation_of t l i b ≡ handed_of (with_slot t i (active_context (root_args Simulation h l false))) h
+  chosen h a = rw a
 
 -- ---- the tests in their order
 
@@ -149,23 +142,23 @@ module _ (t : State) (flags l : ℕ) (b : List ℕ) where
     ]
 
     as-simulation : (i : ℕ) → free_in slot_count (slot_of t.contexts) ≡ Ok i → marked flags init_default_bit ≡ false
-        → (chosen_in slot_count (slot_of t.contexts) b).answer ≡ done → AsSimulation t flags l b
-    as-simulation i p d a = record {
+        → (h : List ℕ) → chosen_in slot_count (slot_of t.contexts) b ≡ Ok h → AsSimulation t flags l b
+    as-simulation i p d h a = record {
       slot = i;
       free = free-is slot_count (slot_of t.contexts) i p;
       supported = elim (two (marked t.support simulation_bit)) [
         | inl y ↦ y
         | inr n ↦ clash (or_right (marked flags init_default_bit && is_on t.has_initialized) _ (and_both (asked d) (ap not n))) ok
       ];
-      handle = (chosen_in slot_count (slot_of t.contexts) b).handle;
-      taken = taken slot_count (slot_of t.contexts) b a;
-      is = simulation-slot t flags l b ok one i p d ∙ rw a;
+      handle = h;
+      taken = taken slot_count (slot_of t.contexts) b h a;
+      is = simulation-slot t flags l b ok one i p d ∙ chosen t l i b h a;
     }
 
     by_choice : (i : ℕ) → free_in slot_count (slot_of t.contexts) ≡ Ok i → marked flags init_default_bit ≡ false
-        → (o : Result Unit DpeErrorCode) → (chosen_in slot_count (slot_of t.contexts) b).answer ≡ o → Ended t flags l b
-    by_choice i p d (Ok tt) a = simulation_made (as-simulation i p d a)
-    by_choice i p d (Err e) a = nothing_made e (simulation-slot t flags l b ok one i p d ∙ rw a)
+        → (o : Result (List ℕ) DpeErrorCode) → chosen_in slot_count (slot_of t.contexts) b ≡ o → Ended t flags l b
+    by_choice i p d (Ok h) a = simulation_made (as-simulation i p d h a)
+    by_choice i p d (Err e) a = nothing_made e (simulation-slot t flags l b ok one i p d ∙ not_chosen t l i b e a)
 
     by_free : (f : Result ℕ DpeErrorCode) → free_in slot_count (slot_of t.contexts) ≡ f → Ended t flags l b
     by_free (Err e) p = nothing_made MaxTcis (no_slot t flags l b ok one e p)
@@ -187,7 +180,7 @@ module _ (t : State) (flags l : ℕ) (b : List ℕ) where
   -- a refusal changes nothing
   pub refused : (e : DpeErrorCode) → (initialized_of t flags l b).answer ≡ Err e → initialized_of t flags l b ≡ refused_of t e
   refused e p = elim ended [
-    | nothing_made r q ↦ q ∙ ap (refused_of t) (same_refused (sym (ap (λ (x : NewHandle). x.answer) q) ∙ p))
-    | default_made d ↦ never_done (sym (ap (λ (x : NewHandle). x.answer) d.is) ∙ p)
-    | simulation_made d ↦ never_done (sym (ap (λ (x : NewHandle). x.answer) d.is) ∙ p)
+    | nothing_made r q ↦ q ∙ ap (refused_of t) (same_err (sym (ap (λ (x : Outcome (List ℕ)). x.answer) q) ∙ p))
+    | default_made d ↦ never (sym (ap (λ (x : Outcome (List ℕ)). x.answer) d.is) ∙ p)
+    | simulation_made d ↦ never (sym (ap (λ (x : Outcome (List ℕ)). x.answer) d.is) ∙ p)
   ]

@@ -2,30 +2,29 @@
 use Rattle.std.specs.Prelude.{Result, Ok, Err}
 use mathlib.Core.Path.{◌≡◌, refl, sym, ap, ◌∙◌}
 use mathlib.Core.Logic.{inl, inr, ◌↔◌}
-use mathlib.Core.Bool.{Bool, true, false, not, ◌&&◌, ◌||◌}
+use mathlib.Core.Bool.{Bool, true, false, cond, not, ◌&&◌, ◌||◌}
 use mathlib.Core.List.{List}
 use Prim.Native.Nat.{ℕ, ◌+◌, ◌<◌}
 use lib.Dec.{eqb}
-use Rattle.error.specs.Numbers.{done}
 use Rattle.error.specs.declared.DpeErrorCode.{DpeErrorCode}
 use Rattle.error.specs.declared.DpeErrorCode.TheVariants.{InvalidCommand, InvalidArgument}
+use Rattle.error.proofs.Exits.{same_err, never}
 use Rattle.children.specs.Below.{some}
 use Rattle.children.specs.Marks.{slot_count, marked}
 use Rattle.children.proofs.Cases.{two, clash, and_both, and_left, and_right, or_cases, or_left, or_right, or_none, not-false, eqb-true, true-eqb}
 use Rattle.children.proofs.Below.{some_next, some_of, none_of}
 use Rattle.context.specs.declared.Context.{Context}
 use Rattle.table.specs.declared.state.State.{State}
-use Rattle.table.specs.declared.state.NewHandle.{NewHandle}
+use Rattle.table.specs.declared.state.Outcome.{Outcome}
 use Rattle.handle.specs.Handle.{is_default, default_handle}
 use Rattle.table.specs.Flags.{rotate_bit, rotate_default_bit}
 use Rattle.context.specs.Context.{slot_of}
 use Rattle.table.specs.State.{refused_of}
 use Rattle.lookup.specs.Lookup.{active_in, lookup_in}
 use Rattle.lookup.proofs.Lookup.{Target, found_iff, some_iff}
-use Rattle.candidates.specs.declared.Chosen.{Chosen}
 use Rattle.candidates.specs.Candidates.{chosen_in}
-use Rattle.candidates.proofs.Candidates.{same_refused, never_done, Taken, taken, untaken}
-use Rattle.rotate_context.specs.Rotate.{default_at, other_at, occupied, rotated_to, to_default, to_candidate, rotated_at, rotated_of}
+use Rattle.candidates.proofs.Candidates.{Taken, taken}
+use Rattle.rotate_context.specs.Rotate.{default_at, other_at, occupied, rotated_to, to_default, to_chosen, to_candidate, rotated_at, rotated_of}
 
 or-false : (a b : Bool) → (a || b) ≡ false → (a ≡ false) × (b ≡ false)
 or-false true b e = clash refl e
@@ -100,15 +99,12 @@ module _ (t : State) (l i : ℕ) where
 
 -- ---- with the candidate that was chosen
 
-module _ (t : State) (i : ℕ) (b : List ℕ) (ch : Chosen) (is : ch ≡ chosen_in slot_count (slot_of t.contexts) b) where
-  pub not_chosen : (e : DpeErrorCode) → ch.answer ≡ Err e
-      → ◌≡◌ {A = NewHandle} (record { answer = ch.answer; handle = ch.handle; state = t }) (to_candidate t i b)
-  not_chosen e a =
-      let h : ch.handle ≡ default_handle = rw is (untaken slot_count (slot_of t.contexts) b e (rw is at a)).handle in
-      rw (← is, a, h)
+module _ (t : State) (i : ℕ) (b : List ℕ) where
+  pub not_chosen : (e : DpeErrorCode) → chosen_in slot_count (slot_of t.contexts) b ≡ Err e → to_candidate t i b ≡ refused_of t e
+  not_chosen e a = rw a
 
-  pub chosen : ch.answer ≡ done → rotated_to t i ch.handle ≡ to_candidate t i b
-  chosen a = rw (← is, a)
+  pub chosen : (h : List ℕ) → chosen_in slot_count (slot_of t.contexts) b ≡ Ok h → to_candidate t i b ≡ rotated_to t i h
+  chosen h a = rw a
 
 -- ---- the tests in their order
 
@@ -131,6 +127,40 @@ module _ (t : State) (h : List ℕ) (l flags : ℕ) (b : List ℕ) where
         → rotated_of t h l flags b ≡ to_candidate t i b
     to_candidate_lem i e d = by_lookup (Ok i) e ∙ rw d
 
+-- ---- the new handle of the slot that was found
+
+module _ (t : State) (l flags i : ℕ) (b : List ℕ) where
+  to_default_told : (a : Bool) (h : List ℕ) → (cond a (refused_of t InvalidArgument) (rotated_to t i default_handle)).answer ≡ Ok h
+      → cond a (refused_of t InvalidArgument) (rotated_to t i default_handle) ≡ rotated_to t i h
+  to_default_told true h p = never (sym p)
+  to_default_told false h p = ap (rotated_to t i) (let z : default_handle ≡ h = cc in z)
+
+  to_default_kept : (a : Bool) (e : DpeErrorCode) → (cond a (refused_of t InvalidArgument) (rotated_to t i default_handle)).answer ≡ Err e
+      → cond a (refused_of t InvalidArgument) (rotated_to t i default_handle) ≡ refused_of t e
+  to_default_kept true e p = ap (refused_of t) (same_err p)
+  to_default_kept false e p = never p
+
+  to_chosen_told : (o : Result (List ℕ) DpeErrorCode) (h : List ℕ) → (to_chosen t i o).answer ≡ Ok h → to_chosen t i o ≡ rotated_to t i h
+  to_chosen_told (Ok h') h p = ap (rotated_to t i) (let z : h' ≡ h = cc in z)
+  to_chosen_told (Err e) h p = never (sym p)
+
+  to_chosen_kept : (o : Result (List ℕ) DpeErrorCode) (e : DpeErrorCode) → (to_chosen t i o).answer ≡ Err e → to_chosen t i o ≡ refused_of t e
+  to_chosen_kept (Ok h') e p = never p
+  to_chosen_kept (Err e') e p = ap (refused_of t) (same_err p)
+
+  -- where one is given, the slot has it; else nothing changes
+  pub told_handle : (h : List ℕ) → Ok h ≡ (rotated_at t l flags b (Ok i)).answer → rotated_at t l flags b (Ok i) ≡ rotated_to t i h
+  told_handle h p = elim (two (marked flags rotate_default_bit)) [
+    | inl d ↦ rw d (to_default_told (occupied slot_count (slot_of t.contexts) l i) h (rw d at sym p))
+    | inr d ↦ rw d (to_chosen_told (chosen_in slot_count (slot_of t.contexts) b) h (rw d at sym p))
+  ]
+
+  pub kept_handle : (e : DpeErrorCode) → Err e ≡ (rotated_at t l flags b (Ok i)).answer → rotated_at t l flags b (Ok i) ≡ refused_of t e
+  kept_handle e p = elim (two (marked flags rotate_default_bit)) [
+    | inl d ↦ rw d (to_default_kept (occupied slot_count (slot_of t.contexts) l i) e (rw d at sym p))
+    | inr d ↦ rw d (to_chosen_kept (chosen_in slot_count (slot_of t.contexts) b) e (rw d at sym p))
+  ]
+
 -- ---- what an answer tells
 
 -- a refusal, or the target alone is changed: to default in a locality that is not occupied, or to a candidate
@@ -144,11 +174,11 @@ pub data Ended (t : State) (h : List ℕ) (l flags : ℕ) (b : List ℕ) : Type 
 module _ (t : State) (h : List ℕ) (l flags : ℕ) (b : List ℕ) where
   module _ (ok : not (marked t.support rotate_bit) ≡ false) where
     by_choice : (i : ℕ) → lookup_in slot_count (slot_of t.contexts) h l ≡ Ok i → marked flags rotate_default_bit ≡ false
-        → (o : Result Unit DpeErrorCode) → (chosen_in slot_count (slot_of t.contexts) b).answer ≡ o → Ended t h l flags b
-    by_choice i p d done a =
-        to_taken i ((found_iff slot_count (slot_of t.contexts) h l i).0 p) (chosen_in slot_count (slot_of t.contexts) b).handle
-        (taken slot_count (slot_of t.contexts) b a) (to_candidate_lem t h l flags b ok i p d ∙ rw a)
-    by_choice i p d (Err e) a = unchanged e (to_candidate_lem t h l flags b ok i p d ∙ rw a)
+        → (o : Result (List ℕ) DpeErrorCode) → chosen_in slot_count (slot_of t.contexts) b ≡ o → Ended t h l flags b
+    by_choice i p d (Ok h') a =
+        to_taken i ((found_iff slot_count (slot_of t.contexts) h l i).0 p) h' (taken slot_count (slot_of t.contexts) b h' a)
+        (to_candidate_lem t h l flags b ok i p d ∙ chosen t i b h' a)
+    by_choice i p d (Err e) a = unchanged e (to_candidate_lem t h l flags b ok i p d ∙ not_chosen t i b e a)
 
     by-found : (f : Result ℕ DpeErrorCode) → lookup_in slot_count (slot_of t.contexts) h l ≡ f → Ended t h l flags b
     by-found (Err e) p = unchanged e (by_lookup t h l flags b ok (Err e) p)
@@ -170,7 +200,7 @@ module _ (t : State) (h : List ℕ) (l flags : ℕ) (b : List ℕ) where
   -- a refusal changes nothing
   pub refused : (e : DpeErrorCode) → (rotated_of t h l flags b).answer ≡ Err e → rotated_of t h l flags b ≡ refused_of t e
   refused e p = elim ended [
-    | unchanged r q ↦ q ∙ ap (refused_of t) (same_refused (sym (ap (λ (x : NewHandle). x.answer) q) ∙ p))
-    | to-zero i g o q ↦ never_done (sym (ap (λ (x : NewHandle). x.answer) q) ∙ p)
-    | to_taken i g h' k q ↦ never_done (sym (ap (λ (x : NewHandle). x.answer) q) ∙ p)
+    | unchanged r q ↦ q ∙ ap (refused_of t) (same_err (sym (ap (λ (x : Outcome (List ℕ)). x.answer) q) ∙ p))
+    | to-zero i g o q ↦ never (sym (ap (λ (x : Outcome (List ℕ)). x.answer) q) ∙ p)
+    | to_taken i g h' k q ↦ never (sym (ap (λ (x : Outcome (List ℕ)). x.answer) q) ∙ p)
   ]

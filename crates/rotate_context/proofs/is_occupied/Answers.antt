@@ -7,14 +7,14 @@ use Rattle.rotate_context.proofs.Rotate.{occupied_none, occupied_on, occupied-he
 use Rattle.rotate_context.proofs.is_occupied.Goals as goal
 
 pub loop-j-init : goal.loop-j-init
-loop-j-init c = let a = c.args in (omega arith, occupied_none (slot_of a.t.contexts) a.locality a.target_idx)
+loop-j-init g c = let a = c.args in (omega arith, occupied_none (slot_of (g.T.Slots.state a.t.now).contexts) a.locality a.target_idx)
 
 pub returns-then-occupies : goal.returns-then-occupies
-returns-then-occupies c =
+returns-then-occupies g c =
     let a = c.args in
-    sym (occupied-here (slot_of a.t.contexts) a.locality a.target_idx slot_count c.loop-j.j (omega arith) (sym c.occupies.ensures ∙ c.if-occupies.true))
+    sym (occupied-here (slot_of (g.T.Slots.state a.t.now).contexts) a.locality a.target_idx slot_count c.loop-j.j (omega arith) (sym c.occupies.ensures ∙ c.if-occupies.true))
 
 pub loop-j-preserved : goal.loop-j-preserved
-loop-j-preserved c =
+loop-j-preserved g c =
     let a = c.args in
-    (omega arith, occupied_on (slot_of a.t.contexts) a.locality a.target_idx c.loop-j.j c.loop-j.invariant.1 (sym c.occupies.ensures ∙ c.if-occupies.false))
+    (omega arith, occupied_on (slot_of (g.T.Slots.state a.t.now).contexts) a.locality a.target_idx c.loop-j.j c.loop-j.invariant.1 (sym c.occupies.ensures ∙ c.if-occupies.false))

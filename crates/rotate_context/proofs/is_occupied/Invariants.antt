@@ -7,4 +7,4 @@ use Rattle.rotate_context.specs.Rotate.{occupied}
 use Rattle.rotate_context.proofs.is_occupied.Given as goal
 
 abbrev pub invariant-loop-j : goal.invariant-loop-j
-invariant-loop-j l = (l.j ≤ slot_count) × (occupied l.j (slot_of l.t.contexts) l.locality l.target_idx ≡ false)
+invariant-loop-j g l = (l.j ≤ slot_count) × (occupied l.j (slot_of (g.T.Slots.state l.t).contexts) l.locality l.target_idx ≡ false)
