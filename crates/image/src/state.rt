@@ -37,8 +37,8 @@ fn are_good(image: &[u8]) -> bool
     image_kinds::are_good_kinds(kinds)
 }
 
-// Whether the image reads. `readable` says why one does not.
-pub fn is_readable(image: &[u8]) -> bool
+// Whether the image reads.
+fn is_readable(image: &[u8]) -> bool
     ensures { result ≡ is_readable image.now }
 {
     if image.len() == SIZE {
@@ -47,8 +47,8 @@ pub fn is_readable(image: &[u8]) -> bool
     false
 }
 
-// What reading the image answers; nothing is built.
-pub fn readable(image: &[u8]) -> Result<(), DpeErrorCode>
+// The first refusal of an image, slot by slot.
+fn first_refusal(image: &[u8]) -> Result<(), DpeErrorCode>
     ensures { result ≡ readable_of image.now }
 {
     if image.len() != SIZE {
@@ -58,4 +58,14 @@ pub fn readable(image: &[u8]) -> Result<(), DpeErrorCode>
         image_kinds::answer_at(image, CONTEXTS_AT + image_context::SIZE * slot)?;
     }
     Ok(())
+}
+
+// What reading the image answers; nothing is built. The quick test comes first, and why an image does not read is looked for after it.
+pub fn readable(image: &[u8]) -> Result<(), DpeErrorCode>
+    ensures { result ≡ readable_of image.now }
+{
+    if is_readable(image) {
+        return Ok(());
+    }
+    first_refusal(image)
 }

@@ -1,16 +1,25 @@
 // The bytes of an image, read and written where they lie.
-ghost use Rattle.std.specs.Prelude.{◌≡◌};
+ghost use Rattle.std.specs.Prelude.{◌≡◌, Err, MatchResult};
 ghost use Rattle.error.specs.Numbers.{done};
 ghost use Rattle.image.specs.State.{decode_state, readable_of};
 ghost use Rattle.slots.specs.Image.{table_slots};
 
 use crate::{Slots, SlotsMut};
 use context::{Context, ContextState, ContextType, u8bool};
+use error::DpeErrorCode;
 use image::state;
 use image::state::{CONTEXTS_AT, SIZE};
 
 // The bytes of a whole image.
 pub type Image = [u8; SIZE];
+
+// The table of an image where it lies, or why the image does not read.
+pub fn read(image: &[u8]) -> Result<&Image, DpeErrorCode>
+    ensures { MatchResult result (λ t. (t.now ≡ image.now) × (readable_of image.now ≡ done)) (λ e. readable_of image.now ≡ Err e) }
+{
+    state::readable(image)?;
+    Ok(image.first_chunk().unwrap())
+}
 
 impl Slots for Image {
     ghost state = { decode_state };
