@@ -9,7 +9,7 @@ use error::DpeErrorCode;
 
 // The word of a refusal.
 pub fn refused(e: DpeErrorCode) -> u64
-    ensures { result ≡ word_of {Unit {0}} (Err e) }
+    ensures { result ≡ word_of {A = Unit {0}} (Err e) }
 {
     error::word(Err(e))
 }
@@ -26,4 +26,12 @@ pub fn found<T: Copy>(answer: Result<T, DpeErrorCode>, place: &mut T) -> u64
         }
         Err(e) => refused(e),
     }
+}
+
+// The same for a number of slots.
+pub fn number(answer: Result<usize, DpeErrorCode>, place: &mut u64) -> u64
+    ensures value { result ≡ word_of answer }
+    ensures place_after { place.new ≡ result_unwrap_or answer place.old }
+{
+    found(answer.map(|n| n as u64), place)
 }

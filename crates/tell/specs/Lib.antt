@@ -1,2 +1,0 @@
--- What the contracts of tell, and of the crates above it, cite.
-pub mod Tell
