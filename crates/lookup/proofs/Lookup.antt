@@ -1,19 +1,19 @@
 -- Laws of the lookup: what a slot that was found satisfies, what each refusal says, and that only the slots below n count. Assumes nothing.
-use Rattle.std.specs.Prelude.{Ok, Err}
+use Rattle.std.specs.Prelude.{Result, Ok, Err}
 use mathlib.Core.Path.{◌≡◌, refl, sym, ap, ap₂, ◌∙◌}
 use mathlib.Core.Logic.{◌⊎◌, inl, inr, ◌↔◌}
 use mathlib.Core.Bool.{Bool, true, false, cond, ◌||◌}
 use mathlib.Core.List.{List}
-use Prim.Native.Nat.{ℕ, ◌≤◌, ◌<◌}
+use Prim.Native.Nat.{ℕ, ◌+◌, ◌-◌, ◌≤◌, ◌<◌}
 use native.Mathlib.Decide.{dec_lt}
 use native.Mathlib.Omega.{arith}
 use borrow.Author.Tests.{lt-ltb, le-ltb}
 use lib.Dec.{ltb}
 use Rattle.error.specs.declared.DpeErrorCode.{DpeErrorCode}
 use Rattle.error.specs.declared.DpeErrorCode.TheVariants.{InvalidHandle, InvalidLocality}
-use Rattle.children.specs.Below.{some, lowest}
+use Rattle.children.specs.Below.{some, lowest_from, lowest}
 use Rattle.children.proofs.Cases.{two, clash, order, and-true, and_both, and_left, eqb-true, true-eqb}
-use Rattle.children.proofs.Below.{low_bare, low_passes, low_same, of_some, some_of, none-at, some_same}
+use Rattle.children.proofs.Below.{low-here, low_on, low_end, low_bare, low_passes, low_same, of_some, some_of, none-at, some_same}
 use Rattle.context.specs.declared.Context.{Context}
 use Rattle.context.specs.Context.{is_active}
 use Rattle.context.proofs.Bytes.{same_iff}
@@ -34,23 +34,38 @@ or_miss false e = e
 never : {A : Type 0} {i : ℕ} {e : DpeErrorCode} → Ok i ≡ Err e → A
 never p = absurd (let z : ◌≡◌ {A = ℕ} 0 1 = cc in omega arith)
 
-same_at : {i j : ℕ} → Ok i ≡ Ok j → i ≡ j
+same_at : {i j : ℕ} → ◌≡◌ {A = Result ℕ DpeErrorCode} (Ok i) (Ok j) → i ≡ j
 same_at e = cc
 
 module _ (n : ℕ) (s : ℕ → Context) (h : List ℕ) (l : ℕ) where
   -- ---- the ways out of the search
 
-  pub found_at : (i : ℕ) → lowest (is_target s h l) n ≡ i → i < n → Ok i ≡ lookup_in n s h l
+  found_at : (i : ℕ) → lowest (is_target s h l) n ≡ i → i < n → Ok i ≡ lookup_in n s h l
   unfolding lookup_in
   found_at i e b = rw (e, lt-ltb i n b)
 
-  pub found-other : n ≤ lowest (is_target s h l) n → some (active_in s l) n ≡ true → Err InvalidHandle ≡ lookup_in n s h l
+  found-other : n ≤ lowest (is_target s h l) n → some (active_in s l) n ≡ true → Err InvalidHandle ≡ lookup_in n s h l
   unfolding lookup_in
   found-other b e = rw (le-ltb _ _ b, e)
 
-  pub found_nowhere : n ≤ lowest (is_target s h l) n → some (active_in s l) n ≡ false → Err InvalidLocality ≡ lookup_in n s h l
+  found_nowhere : n ≤ lowest (is_target s h l) n → some (active_in s l) n ≡ false → Err InvalidLocality ≡ lookup_in n s h l
   unfolding lookup_in
   found_nowhere b e = rw (le-ltb _ _ b, e)
+
+  -- ---- a turn of the search, at slot i
+
+  module _ (i : ℕ) (on : lowest_from (is_target s h l) (n - i) i ≡ lowest (is_target s h l) n) where
+    pub turn_found : i < n → is_target s h l i ≡ true → Ok i ≡ lookup_in n s h l
+    turn_found b t = found_at i (sym on ∙ low-here (is_target s h l) n i b t) b
+
+    pub turn_on : i < n → is_target s h l i ≡ false → lowest_from (is_target s h l) (n - (i + 1)) (i + 1) ≡ lowest (is_target s h l) n
+    turn_on b f = sym (low_on (is_target s h l) n i b f) ∙ on
+
+    pub turn-end_other : i ≡ n → some (active_in s l) i ≡ true → Err InvalidHandle ≡ lookup_in n s h l
+    turn-end_other z e = let y = low_end (is_target s h l) n i (omega arith) in found-other (omega arith) (rw z at e)
+
+    pub turn-end_nowhere : i ≡ n → some (active_in s l) i ≡ false → Err InvalidLocality ≡ lookup_in n s h l
+    turn-end_nowhere z e = let y = low_end (is_target s h l) n i (omega arith) in found_nowhere (omega arith) (rw z at e)
 
   -- ---- what each answer tells
 

@@ -27,8 +27,3 @@ none_in n s l = cond (some (active_in s l) n) (Err InvalidHandle) (Err InvalidLo
 -- the lowest active slot of the locality l with the handle h
 unfoldable pub lookup_in : ℕ → (ℕ → Context) → List ℕ → ℕ → Result ℕ DpeErrorCode
 lookup_in n s h l = cond (ltb (lowest (is_target s h l) n) n) (Ok (lowest (is_target s h l) n)) (none_in n s l)
-
--- the refusal of an answer; a slot that was found has none, and is not asked
-abbrev pub why_of : Result ℕ DpeErrorCode → DpeErrorCode
-why_of (Ok i) = InvalidHandle
-why_of (Err e) = e

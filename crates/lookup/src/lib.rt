@@ -1,35 +1,38 @@
 // The lookup of an active context by handle and locality. `get_active_context_pos` of state.rs.
 #![tactic(auto)]
 
-ghost use Rattle.std.specs.Prelude.{◌≡◌};
+pub mod find;
+
+ghost use Rattle.std.specs.Prelude.{◌≡◌, ◌<◌};
 ghost use Rattle.children.specs.Marks.{slot_count};
 ghost use Rattle.context.specs.Context.{slot_of};
-ghost use Rattle.lookup.specs.Lookup.{active_of, lookup_in, why_of};
+ghost use Rattle.lookup.specs.Lookup.{active_in, lookup_in};
 
 use children::MAX_HANDLES;
-use context::{Context, ContextState};
 use error::DpeErrorCode;
-use table::state::State;
+use slots::Slots;
 
-// Whether a context is active, and of the locality.
-pub fn active_in(c: Context, locality: u32) -> bool
-    ensures { result ≡ active_of c locality }
+// Whether the slot is active, and of the locality.
+pub fn active_in<T: Slots>(t: &T, i: usize, locality: u32) -> bool
+    requires { i < slot_count }
+    ensures { result ≡ active_in (slot_of (T.state t.now).contexts) locality i }
 {
-    let s = c.state;
-    context::same_state(ContextState::Active, s) & (c.locality == locality)
+    context::is_active(t.state_at(i)) & (t.locality_at(i) == locality)
 }
 
 // The lowest active slot of the locality with the handle.
-pub fn get_active_context_pos(t: State, handle: [u8; handle::SIZE], locality: u32) -> Result<usize, DpeErrorCode>
-    ensures { result ≡ lookup_in slot_count (slot_of t.contexts) handle locality }
+pub fn get_active_context_pos<T: Slots>(
+    t: &T,
+    handle: [u8; handle::SIZE],
+    locality: u32,
+) -> Result<usize, DpeErrorCode>
+    ensures { result ≡ lookup_in slot_count (slot_of (T.state t.now).contexts) handle locality }
 {
     let mut seen_locality = false;
     for i in 0..MAX_HANDLES {
-        let c = t.contexts[i];
-        if active_in(c, locality) {
+        if active_in(t, i, locality) {
             seen_locality = true;
-            let h = c.handle;
-            if handle::equals(h, handle) {
+            if handle::equals(t.handle_at(i), handle) {
                 return Ok(i);
             }
         }
@@ -38,14 +41,4 @@ pub fn get_active_context_pos(t: State, handle: [u8; handle::SIZE], locality: u3
         return Err(DpeErrorCode::InvalidHandle);
     }
     Err(DpeErrorCode::InvalidLocality)
-}
-
-// The refusal of an answer, for the `else` of a `let .. else`; a slot that was found has none, and is not asked.
-pub fn why(f: Result<usize, DpeErrorCode>) -> DpeErrorCode
-    ensures { result ≡ why_of f }
-{
-    match f {
-        Ok(_) => DpeErrorCode::InvalidHandle,
-        Err(e) => e,
-    }
 }

@@ -1,11 +1,10 @@
-// The whole table, and what is counted and looked for in it. state.rs.
+// The whole table. state.rs.
 ghost use Rattle.std.specs.Prelude.{◌≡◌, ◌<◌};
 ghost use Rattle.children.specs.Marks.{slot_count};
-ghost use Rattle.context.specs.Context.{slot_of};
-ghost use Rattle.table.specs.State.{new_state, with_slot, with_initialized, count_in, free_in, refused_of};
+ghost use Rattle.table.specs.State.{new_state, with_slot, with_initialized, refused_of};
 
 use children::MAX_HANDLES;
-use context::{Context, ContextState};
+use context::Context;
 use error::DpeErrorCode;
 
 // "DPES", read as a big-endian number.
@@ -77,33 +76,4 @@ pub fn refused<T>(t: State, e: DpeErrorCode) -> Outcome<T>
         answer: Err(e),
         state: t,
     }
-}
-
-// How many contexts are in a state.
-pub fn count_contexts(t: State, state: ContextState) -> usize
-    ensures { result ≡ count_in slot_count (slot_of t.contexts) state }
-{
-    let mut found: usize = 0;
-    for i in 0..MAX_HANDLES {
-        let c = t.contexts[i];
-        let s = c.state;
-        if context::same_state(state, s) {
-            found += 1;
-        }
-    }
-    found
-}
-
-// The lowest inactive slot.
-pub fn get_next_inactive_context_pos(t: State) -> Result<usize, DpeErrorCode>
-    ensures { result ≡ free_in slot_count (slot_of t.contexts) }
-{
-    for i in 0..MAX_HANDLES {
-        let c = t.contexts[i];
-        let s = c.state;
-        if context::is_inactive(s) {
-            return Ok(i);
-        }
-    }
-    Err(DpeErrorCode::MaxTcis)
 }
