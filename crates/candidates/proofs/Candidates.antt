@@ -1,18 +1,15 @@
 -- Laws of the choice: what a candidate that was taken satisfies, what each refusal says, and that only the slots below n count. Assumes nothing.
-use Rattle.std.specs.Prelude.{Err}
+use Rattle.std.specs.Prelude.{Result, Ok, Err}
 use mathlib.Core.Path.{◌≡◌, refl, sym, ap, ◌∙◌}
 use mathlib.Core.Logic.{◌⊎◌, inl, inr}
 use mathlib.Core.Bool.{Bool, true, false, cond, not, ◌&&◌}
 use mathlib.Core.List.{List}
 use Prim.Native.Nat.{ℕ, ◌+◌, ◌*◌, ◌-◌, ◌≤◌, ◌<◌}
 use native.Mathlib.Decide.{dec_lt}
-use native.Mathlib.Numerals.{add-one}
 use native.Mathlib.Omega.{arith}
 use borrow.Author.Tests.{lt-ltb, le-ltb, le-leb, lt-leb}
 use lib.Dec.{ltb}
-use lib.ListN.{length, take, drop, get_or, set, length-take, length-drop}
-use lib.Seq.{take-suc, take-suc-set, get_or-drop}
-use Rattle.error.specs.Numbers.{done}
+use lib.ListN.{length, length-take, length-drop}
 use Rattle.error.specs.declared.DpeErrorCode.{DpeErrorCode}
 use Rattle.error.specs.declared.DpeErrorCode.TheVariants.{InternalError, Added}
 use Rattle.error.specs.declared.InternalErrorCode.TheVariants.{HandleGenerationExhausted}
@@ -23,15 +20,7 @@ use Rattle.children.proofs.Below.{low-here, low_on, low_end, low_bare, low_passe
 use Rattle.context.specs.declared.Context.{Context}
 use Rattle.handle.specs.Handle.{handle_size, same_bytes, default_handle, is_default}
 use Rattle.context.proofs.Bytes.{same_iff}
-use Rattle.candidates.specs.declared.Chosen.{Chosen}
-use Rattle.candidates.specs.Candidates.{attempts, candidate_at, holds, has_handle, usable, usable_at, taken_of, untaken_of, none_usable, chosen_in}
-
--- one byte more is copied from place a on
-pub copy-next : (h b : List ℕ) (a i : ℕ) → i < length h → a + i < length b → take i h ≡ take i (drop a b)
-    → take (i + 1) (set h i (get_or b (a + i) 0)) ≡ take (i + 1) (drop a b)
-copy-next h b a i hh hb e =
-    let hd : i < length (drop a b) = simp length-drop (omega arith) in
-    rw (add-one i, take-suc-set h i _ hh, take-suc (drop a b) i 0 hd, get_or-drop a b i 0, e)
+use Rattle.candidates.specs.Candidates.{attempts, candidate_at, holds, has_handle, usable, usable_at, none_usable, chosen_in}
 
 -- ---- usable, by what is known of the handle
 
@@ -55,17 +44,17 @@ module _ (n : ℕ) (s : ℕ → Context) (h : List ℕ) where
 module _ (n : ℕ) (s : ℕ → Context) (b : List ℕ) where
   -- ---- the ways out of the search
 
-  pub chosen_at : (k : ℕ) → lowest (usable_at n s b) attempts ≡ k → k < attempts → taken_of (candidate_at b k) ≡ chosen_in n s b
+  pub chosen_at : (k : ℕ) → lowest (usable_at n s b) attempts ≡ k → k < attempts → Ok (candidate_at b k) ≡ chosen_in n s b
   unfolding chosen_in
   chosen_at k e l = rw (e, lt-ltb k attempts l)
 
   pub chosen_exhausted : attempts ≤ lowest (usable_at n s b) attempts → attempts * handle_size ≤ length b
-      → untaken_of (InternalError HandleGenerationExhausted) ≡ chosen_in n s b
+      → Err (InternalError HandleGenerationExhausted) ≡ chosen_in n s b
   unfolding chosen_in
   chosen_exhausted l f = rw (le-ltb _ _ l, le-leb _ _ f)
 
   pub chosen_short : attempts ≤ lowest (usable_at n s b) attempts → length b < attempts * handle_size
-      → untaken_of (Added CandidatesShort) ≡ chosen_in n s b
+      → Err (Added CandidatesShort) ≡ chosen_in n s b
   unfolding chosen_in
   chosen_short l f = rw (le-ltb _ _ l, lt-leb _ _ f)
 
@@ -82,17 +71,17 @@ module _ (n : ℕ) (s : ℕ → Context) (b : List ℕ) where
   -- ---- a turn of the search, at candidate k
 
   module _ (k : ℕ) (on : lowest_from (usable_at n s b) (attempts - k) k ≡ lowest (usable_at n s b) attempts) where
-    pub turn_short : k < attempts → length b < (k + 1) * handle_size → untaken_of (Added CandidatesShort) ≡ chosen_in n s b
+    pub turn_short : k < attempts → length b < (k + 1) * handle_size → Err (Added CandidatesShort) ≡ chosen_in n s b
     turn_short l f = let a = absent (attempts - k) k f in chosen_short (omega arith) (omega arith)
 
     pub turn_on : k < attempts → usable n s (candidate_at b k) ≡ false
         → lowest_from (usable_at n s b) (attempts - (k + 1)) (k + 1) ≡ lowest (usable_at n s b) attempts
     turn_on l u = sym (low_on (usable_at n s b) attempts k l (and_right (holds b (k + 1)) u)) ∙ on
 
-    pub turn_taken : k < attempts → (k + 1) * handle_size ≤ length b → usable n s (candidate_at b k) ≡ true → taken_of (candidate_at b k) ≡ chosen_in n s b
+    pub turn_taken : k < attempts → (k + 1) * handle_size ≤ length b → usable n s (candidate_at b k) ≡ true → Ok (candidate_at b k) ≡ chosen_in n s b
     turn_taken l f u = chosen_at k (sym on ∙ low-here (usable_at n s b) attempts k l (and_both (le-leb _ _ f) u)) l
 
-    pub turn_end : k ≡ attempts → k * handle_size ≤ length b → untaken_of (InternalError HandleGenerationExhausted) ≡ chosen_in n s b
+    pub turn_end : k ≡ attempts → k * handle_size ≤ length b → Err (InternalError HandleGenerationExhausted) ≡ chosen_in n s b
     turn_end e f = let z = low_end (usable_at n s b) attempts k (omega arith) in chosen_exhausted (omega arith) (omega arith)
 
 -- ---- what the choice tells
@@ -108,20 +97,22 @@ pub record Taken (n : ℕ) (s : ℕ → Context) (b h : List ℕ) : Type 0 where
   pub unheld : (i : ℕ) → i < n → (s i).handle ≡ h → ⊥
   pub first : (j : ℕ) → j < place → usable_at n s b j ≡ false
 
--- none was taken: no part of the eight is usable, there is no handle, and e says whether the buffer holds eight
+-- none was taken: no part of the eight is usable, and e says whether the buffer holds eight
 pub record Untaken (n : ℕ) (s : ℕ → Context) (b : List ℕ) (e : DpeErrorCode) : Type 0 where
   pub bare : (k : ℕ) → k < attempts → usable_at n s b k ≡ false
-  pub handle : (chosen_in n s b).handle ≡ default_handle
   pub why : ((e ≡ InternalError HandleGenerationExhausted) × (attempts * handle_size ≤ length b)) ⊎ ((e ≡ Added CandidatesShort) × (length b < attempts * handle_size))
 
 differ : {a b : List ℕ} → same_bytes a b ≡ false → a ≡ b → ⊥
 differ {a} {b} f e = clash ((same_iff a b).1 e) f
 
-pub same_refused : {e f : DpeErrorCode} → Err e ≡ Err f → e ≡ f
+pub same_refused : {T : Type 0} {e f : DpeErrorCode} → ◌≡◌ {A = Result T DpeErrorCode} (Err e) (Err f) → e ≡ f
 same_refused p = cc
 
-pub never_done : {A : Type 0} {e : DpeErrorCode} → done ≡ Err e → A
+pub never_done : {A T : Type 0} {x : T} {e : DpeErrorCode} → ◌≡◌ {A = Result T DpeErrorCode} (Ok x) (Err e) → A
 never_done p = absurd (let z : ◌≡◌ {A = ℕ} 0 1 = cc in omega arith)
+
+same_taken : {h h' : List ℕ} → ◌≡◌ {A = Result (List ℕ) DpeErrorCode} (Ok h) (Ok h') → h ≡ h'
+same_taken p = cc
 
 module _ (n : ℕ) (s : ℕ → Context) (b : List ℕ) where
   at_low : (k : ℕ) → lowest (usable_at n s b) attempts ≡ k → k < attempts → Taken n s b (candidate_at b k)
@@ -140,11 +131,11 @@ module _ (n : ℕ) (s : ℕ → Context) (b : List ℕ) where
         first = λ j h. low_bare (usable_at n s b) attempts 0 j (omega arith) (omega arith);
       }
 
-  -- a candidate was taken, or none of the eight is usable, and then there is no handle
+  -- a candidate was taken, or none of the eight is usable
   ways : {A : Type 0}
-      → ((k : ℕ) → Taken n s b (candidate_at b k) → chosen_in n s b ≡ taken_of (candidate_at b k) → A)
-      → (((k : ℕ) → k < attempts → usable_at n s b k ≡ false) → attempts * handle_size ≤ length b → chosen_in n s b ≡ untaken_of (InternalError HandleGenerationExhausted) → A)
-      → (((k : ℕ) → k < attempts → usable_at n s b k ≡ false) → length b < attempts * handle_size → chosen_in n s b ≡ untaken_of (Added CandidatesShort) → A)
+      → ((k : ℕ) → Taken n s b (candidate_at b k) → chosen_in n s b ≡ Ok (candidate_at b k) → A)
+      → (((k : ℕ) → k < attempts → usable_at n s b k ≡ false) → attempts * handle_size ≤ length b → chosen_in n s b ≡ Err (InternalError HandleGenerationExhausted) → A)
+      → (((k : ℕ) → k < attempts → usable_at n s b k ≡ false) → length b < attempts * handle_size → chosen_in n s b ≡ Err (Added CandidatesShort) → A)
       → A
   ways f g r = elim (dec_lt (lowest (usable_at n s b) attempts) attempts) [
     | yes l ↦ f (lowest (usable_at n s b) attempts) (at_low _ refl l) (sym (chosen_at n s b _ refl l))
@@ -157,23 +148,19 @@ module _ (n : ℕ) (s : ℕ → Context) (b : List ℕ) where
         ]
   ]
 
-  pub taken : (chosen_in n s b).answer ≡ done → Taken n s b (chosen_in n s b).handle
-  taken e =
-      ways
-      (λ k t q. rw q t)
-      (λ f l q. never_done (sym e ∙ ap (λ (c : Chosen). c.answer) q))
-      (λ f l q. never_done (sym e ∙ ap (λ (c : Chosen). c.answer) q))
+  pub taken : (h : List ℕ) → chosen_in n s b ≡ Ok h → Taken n s b h
+  taken h e = ways (λ k t q. rw (same_taken (sym q ∙ e)) at t) (λ f l q. never_done (sym e ∙ q)) (λ f l q. never_done (sym e ∙ q))
 
-  pub untaken : (e : DpeErrorCode) → (chosen_in n s b).answer ≡ Err e → Untaken n s b e
+  pub untaken : (e : DpeErrorCode) → chosen_in n s b ≡ Err e → Untaken n s b e
   untaken e p =
       ways
-      (λ k t q. never_done (sym (ap (λ (c : Chosen). c.answer) q) ∙ p))
-      (λ f l q. record { bare = f; handle = ap (λ (c : Chosen). c.handle) q; why = inl (same_refused (sym p ∙ ap (λ (c : Chosen). c.answer) q), l) })
-      (λ f l q. record { bare = f; handle = ap (λ (c : Chosen). c.handle) q; why = inr (same_refused (sym p ∙ ap (λ (c : Chosen). c.answer) q), l) })
+      (λ k t q. never_done (sym q ∙ p))
+      (λ f l q. record { bare = f; why = inl (same_refused (sym p ∙ q), l) })
+      (λ f l q. record { bare = f; why = inr (same_refused (sym p ∙ q), l) })
 
   -- and back: the first usable candidate of the eight is the one taken
   pub first_taken : (k : ℕ) → k < attempts → usable_at n s b k ≡ true → ((j : ℕ) → j < k → usable_at n s b j ≡ false)
-      → chosen_in n s b ≡ taken_of (candidate_at b k)
+      → chosen_in n s b ≡ Ok (candidate_at b k)
   first_taken k l u f = elim (order (lowest (usable_at n s b) attempts) k) [
     | inl a ↦ clash (low_passes (usable_at n s b) attempts 0 (omega arith)) (f _ a)
     | inr (inl e) ↦ sym (chosen_at n s b k e l)
@@ -198,5 +185,5 @@ module _ (n : ℕ) (s s' : ℕ → Context) (same : (i : ℕ) → i < n → (s i
   pub chosen_same : (b : List ℕ) → chosen_in n s b ≡ chosen_in n s' b
   unfolding chosen_in
   chosen_same b =
-      ap (λ (k : ℕ). cond (ltb k attempts) (taken_of (candidate_at b k)) (none_usable b))
+      ap (λ (k : ℕ). cond (ltb k attempts) (Ok (candidate_at b k)) (none_usable b))
       (low_same (usable_at n s b) (usable_at n s' b) attempts 0 (λ k l m. ap (λ (x : Bool). holds b (k + 1) && x) (usable_same (candidate_at b k))))

@@ -1,15 +1,13 @@
 -- The choice of a usable candidate from the bytes b of a lent buffer. A table is a function s from a slot to its context, and n is the number of
 -- slots. Assumes nothing: these are definitions.
-use Rattle.std.specs.Prelude.{Bool, cond, not, ◌&&◌, List, ℕ, ◌+◌, ◌*◌, leb, ltb, length, take, drop, Err}
-use Rattle.error.specs.Numbers.{done}
+use Rattle.std.specs.Prelude.{Bool, cond, not, ◌&&◌, List, ℕ, ◌+◌, ◌*◌, leb, ltb, length, take, drop, Result, Ok, Err}
 use Rattle.error.specs.declared.DpeErrorCode.{DpeErrorCode}
 use Rattle.error.specs.declared.DpeErrorCode.TheVariants.{InternalError, Added}
 use Rattle.error.specs.declared.InternalErrorCode.TheVariants.{HandleGenerationExhausted}
 use Rattle.error.specs.declared.AddedErrorCode.TheVariants.{CandidatesShort}
 use Rattle.children.specs.Below.{some, lowest}
 use Rattle.context.specs.declared.Context.{Context}
-use Rattle.handle.specs.Handle.{handle_size, same_bytes, default_handle, is_default}
-use Rattle.candidates.specs.declared.Chosen.{Chosen}
+use Rattle.handle.specs.Handle.{handle_size, same_bytes, is_default}
 
 -- only eight are tried
 abbrev pub attempts : ℕ
@@ -35,21 +33,13 @@ usable n s h = not (is_default h) && not (some (has_handle s h) n)
 abbrev pub usable_at : ℕ → (ℕ → Context) → List ℕ → ℕ → Bool
 usable_at n s b k = holds b (k + 1) && usable n s (candidate_at b k)
 
--- the candidate h is taken
-abbrev pub taken_of : List ℕ → Chosen
-taken_of h = record { answer = done; handle = h }
-
--- a refusal: no handle
-abbrev pub untaken_of : DpeErrorCode → Chosen
-untaken_of e = record { answer = Err e; handle = default_handle }
-
 -- none is usable: HandleGenerationExhausted after eight, CandidatesShort where the buffer holds fewer than eight
-abbrev pub none_usable : List ℕ → Chosen
-none_usable b = cond (holds b attempts) (untaken_of (InternalError HandleGenerationExhausted)) (untaken_of (Added CandidatesShort))
+abbrev pub none_usable : List ℕ → Result (List ℕ) DpeErrorCode
+none_usable b = cond (holds b attempts) (Err (InternalError HandleGenerationExhausted)) (Err (Added CandidatesShort))
 
 -- the first usable one of the eight is taken
-unfoldable pub chosen_in : ℕ → (ℕ → Context) → List ℕ → Chosen
+unfoldable pub chosen_in : ℕ → (ℕ → Context) → List ℕ → Result (List ℕ) DpeErrorCode
 chosen_in n s b =
     cond (ltb (lowest (usable_at n s b) attempts) attempts)
-    (taken_of (candidate_at b (lowest (usable_at n s b) attempts)))
+    (Ok (candidate_at b (lowest (usable_at n s b) attempts)))
     (none_usable b)
