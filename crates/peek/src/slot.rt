@@ -4,20 +4,9 @@ ghost use Rattle.children.specs.Marks.{slot_count};
 ghost use Rattle.context.specs.Context.{slot_of};
 ghost use Rattle.image.specs.State.{state_size, decode_state};
 ghost use Rattle.links.specs.Summary.{live_at, retired_at, parent_at, kids_at};
-ghost use Rattle.lookup.specs.Lookup.{active_in};
 
-use context::{Context, ContextState};
+use context::Context;
 use image::state;
-
-// Whether the slot is active, and of the locality.
-pub fn active_in(image: &[u8], slot: usize, locality: u32) -> bool
-    requires { (length image.now ≡ state_size) × (slot < slot_count) }
-    ensures { result ≡ active_in (slot_of (decode_state image.now).contexts) locality slot }
-{
-    let f = view::fields_at(image, slot);
-    let s = f.state;
-    context::same_state(ContextState::Active, s) & (f.locality == locality)
-}
 
 // The handle of the slot.
 pub fn handle_at(image: &[u8], slot: usize) -> [u8; handle::SIZE]
