@@ -20,9 +20,9 @@ use Rattle.verdict.specs.Rule.{Alone}
 use Rattle.verdict.proofs.Steps.{same, seq, test, all, eqb_iff, ltb_iff, and_iff, or-ne, not_iff}
 
 active_iff : (x : ContextState) → (is_active x ≡ true) ↔ (x ≡ Active)
-active_iff Inactive = (λ e. clash e refl, λ e. absurd (let z : ◌≡◌ {A = ℕ} 0 1 = cc in omega arith))
+active_iff Inactive = (λ e. clash e refl, λ e. absurd (cc))
 active_iff Active = (λ e. refl, λ e. refl)
-active_iff Retired = (λ e. clash e refl, λ e. absurd (let z : ◌≡◌ {A = ℕ} 0 1 = cc in omega arith))
+active_iff Retired = (λ e. clash e refl, λ e. absurd (cc))
 
 mix_iff : (d o : ℕ) → (mix_test d o ≡ Ok tt) ↔ ((d < 2) × (d ≢ 0 → o ≡ 0))
 unfolding mix_test

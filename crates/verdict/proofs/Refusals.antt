@@ -210,10 +210,10 @@ module _ (n : ℕ) (s : ℕ → Context) (L : Linked n (table_of n s)) where
   mixed-here : {f : Found} → Finding f → (found_fault f ≡ Err MixedContextTypeConnectedComponents) ↔ Mixed n s
   unfolding found_fault
   mixed-here (is-mixed d) = (λ e. differ_iff.0 d, λ m. refl)
-  mixed-here (is_many none l) = (λ e. absurd (let z : ◌≡◌ {A = ℕ} 0 1 = cc in omega arith), λ m. absurd (none (differ_iff.1 m)))
-  mixed-here (is-cyclic none l q) = (λ e. absurd (let z : ◌≡◌ {A = ℕ} 0 1 = cc in omega arith), λ m. absurd (none (differ_iff.1 m)))
+  mixed-here (is_many none l) = (λ e. absurd (cc), λ m. absurd (none (differ_iff.1 m)))
+  mixed-here (is-cyclic none l q) = (λ e. absurd (cc), λ m. absurd (none (differ_iff.1 m)))
   mixed-here (is-forest r) = (
-    λ e. absurd (let z : ◌≡◌ {A = ℕ} 0 1 = cc in omega arith),
+    λ e. absurd (cc),
     λ m.
         let d = differ_iff.1 m in
         absurd (d.unlike (root-of-link n (table_of n s) L (kind_at s) r.alike d.below.0 d.root d.other
@@ -222,17 +222,17 @@ module _ (n : ℕ) (s : ℕ → Context) (L : Linked n (table_of n s)) where
 
   many-here : {f : Found} → Finding f → (found_fault f ≡ Err MultipleNormalConnectedComponents) ↔ (¬ Mixed n s × TwoNormal n s)
   unfolding found_fault
-  many-here (is-mixed d) = (λ e. absurd (let z : ◌≡◌ {A = ℕ} 0 1 = cc in omega arith), λ r. absurd (r.0 (differ_iff.0 d)))
+  many-here (is-mixed d) = (λ e. absurd (cc), λ r. absurd (r.0 (differ_iff.0 d)))
   many-here (is_many none l) = (λ e. (λ m. none (differ_iff.1 m), many_iff.0 l), λ r. refl)
-  many-here (is-cyclic none l q) = (λ e. absurd (let z : ◌≡◌ {A = ℕ} 0 1 = cc in omega arith), λ r. absurd (omega (arith, many_iff.1 r.1)))
-  many-here (is-forest r) = (λ e. absurd (let z : ◌≡◌ {A = ℕ} 0 1 = cc in omega arith), λ w. absurd (omega (arith, r.one_normal, many_iff.1 w.1)))
+  many-here (is-cyclic none l q) = (λ e. absurd (cc), λ r. absurd (omega (arith, many_iff.1 r.1)))
+  many-here (is-forest r) = (λ e. absurd (cc), λ w. absurd (omega (arith, r.one_normal, many_iff.1 w.1)))
 
   cycles-here : {f : Found} → Finding f → (found_fault f ≡ Err CyclesInTree) ↔ (¬ Mixed n s × (OneNormal n s × Cyclic n s))
   unfolding found_fault
-  cycles-here (is-mixed d) = (λ e. absurd (let z : ◌≡◌ {A = ℕ} 0 1 = cc in omega arith), λ r. absurd (r.0 (differ_iff.0 d)))
-  cycles-here (is_many none l) = (λ e. absurd (let z : ◌≡◌ {A = ℕ} 0 1 = cc in omega arith), λ r. absurd (omega (arith, (normal_iff n s L).1 r.1.0)))
+  cycles-here (is-mixed d) = (λ e. absurd (cc), λ r. absurd (r.0 (differ_iff.0 d)))
+  cycles-here (is_many none l) = (λ e. absurd (cc), λ r. absurd (omega (arith, (normal_iff n s L).1 r.1.0)))
   cycles-here (is-cyclic none l q) = (λ e. (λ m. none (differ_iff.1 m), ((normal_iff n s L).0 l, cyclic_iff.0 q)), λ r. refl)
-  cycles-here (is-forest r) = (λ e. absurd (let z : ◌≡◌ {A = ℕ} 0 1 = cc in omega arith), λ w. absurd (cyclic_iff.1 w.1.1 r.rooted))
+  cycles-here (is-forest r) = (λ e. absurd (cc), λ w. absurd (cyclic_iff.1 w.1.1 r.rooted))
 
 -- ---- the three last refusals
 

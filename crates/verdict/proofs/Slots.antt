@@ -27,17 +27,17 @@ use Rattle.verdict.specs.Rule.{Supported, Idle, Tied, HasChild, InState, Sound}
 use Rattle.verdict.proofs.Steps.{same, seq, test, guard, all, eqb_iff, ltb_iff, ne_iff, and_iff, if_iff, not_iff}
 
 or-normal : (x : ContextType) {b : Bool} → ((is_normal x || b) ≡ true) ↔ (x ≡ Simulation → b ≡ true)
-or-normal Normal = (λ e q. absurd (let z : ◌≡◌ {A = ℕ} 0 1 = cc in omega arith), λ f. refl)
+or-normal Normal = (λ e q. absurd (cc), λ f. refl)
 or-normal Simulation = (λ e q. e, λ f. f refl)
 
 normal_iff : (x : ContextType) → (is_normal x ≡ true) ↔ (x ≡ Normal)
 normal_iff Normal = (λ e. refl, λ e. refl)
-normal_iff Simulation = (λ e. clash e refl, λ e. absurd (let z : ◌≡◌ {A = ℕ} 0 1 = cc in omega arith))
+normal_iff Simulation = (λ e. clash e refl, λ e. absurd (cc))
 
 pub live_iff : (x : ContextState) → (is_live x ≡ true) ↔ (x ≢ Inactive)
 live_iff Inactive = (λ e. clash e refl, λ f. absurd (f refl))
-live_iff Active = (λ e q. let z : ◌≡◌ {A = ℕ} 0 1 = cc in omega arith, λ f. refl)
-live_iff Retired = (λ e q. let z : ◌≡◌ {A = ℕ} 0 1 = cc in omega arith, λ f. refl)
+live_iff Active = (λ e q. cc, λ f. refl)
+live_iff Retired = (λ e q. cc, λ f. refl)
 
 tci_iff : (d : TciNodeData) → (is_zero_tci d ≡ true) ↔ (d ≡ zero_tci)
 unfolding is_zero_tci

@@ -13,8 +13,8 @@ use Rattle.error.specs.declared.ValidationError.{ValidationError}
 use Rattle.children.proofs.Cases.{clash, eqb-true, ltb-true}
 use Rattle.verdict.specs.Tests.{need, first, first_below, where_of}
 
-pub fault_valid : {A : Type 0} {e : ValidationError} → Err e ≡ Ok tt → A
-fault_valid {A} {e} q = absurd (let z : ◌≡◌ {A = ℕ} 0 1 = cc in omega arith)
+pub fault_valid : {A : Type 0} {e : ValidationError} → ◌≡◌ {A = Result (Unit {0}) ValidationError} (Err e) (Ok tt) → A
+fault_valid q = absurd (cc)
 
 -- ---- one law for each way out
 

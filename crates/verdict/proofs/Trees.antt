@@ -59,9 +59,9 @@ kind_iff s i j = (same_type (s i).context_type (s j).context_type, ap number_of)
 found_iff : (f : Found) → (found_fault f ≡ Ok tt) ↔ (f ≡ forest)
 unfolding found_fault
 found_iff forest = (λ e. refl, λ e. refl)
-found_iff mixed_types = (λ e. fault_valid e, λ e. absurd (let z : ◌≡◌ {A = ℕ} 0 1 = cc in omega arith))
-found_iff many_normal = (λ e. fault_valid e, λ e. absurd (let z : ◌≡◌ {A = ℕ} 0 1 = cc in omega arith))
-found_iff cyclic = (λ e. fault_valid e, λ e. absurd (let z : ◌≡◌ {A = ℕ} 0 1 = cc in omega arith))
+found_iff mixed_types = (λ e. fault_valid e, λ e. absurd (cc))
+found_iff many_normal = (λ e. fault_valid e, λ e. absurd (cc))
+found_iff cyclic = (λ e. fault_valid e, λ e. absurd (cc))
 
 module _ (n : ℕ) (s : ℕ → Context) where
   pub live_is : (i : ℕ) → ((table_of n s).live i ≡ true) ↔ Live n s i

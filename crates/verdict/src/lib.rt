@@ -10,8 +10,5 @@ use error::{DpeErrorCode, ValidationError};
 pub fn outcome(v: Result<(), ValidationError>) -> Result<(), DpeErrorCode>
     ensures { result ≡ outcome_of v }
 {
-    match v {
-        Ok(()) => Ok(()),
-        Err(e) => Err(DpeErrorCode::Validation(e)),
-    }
+    Ok(v?)
 }
