@@ -4,7 +4,7 @@ ghost use Rattle.context.specs.Context.{zero_tci};
 
 pub const TCI_SIZE: usize = 48;
 
-#[derive(Clone, Copy)]
+#[derive(Clone, Copy, Debug, PartialEq, Eq)]
 pub struct TciNodeData {
     pub tci_type: u32,
     pub tci_cumulative: [u8; TCI_SIZE],

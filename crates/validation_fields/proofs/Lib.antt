@@ -1,2 +1,2 @@
--- Laws that belong to no one function; callers cite them.
-pub mod Exits
+-- Laws that belong to no one function.
+pub mod Measurements

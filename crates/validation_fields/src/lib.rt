@@ -1,17 +1,16 @@
 // The validator's tests of what one context holds by itself. validation.rs.
 #![tactic(auto)]
 
-ghost use Rattle.std.specs.Prelude.{◌≡◌, replicate};
-ghost use Rattle.handle.specs.Handle.{same_bytes};
-ghost use Rattle.context.specs.Bytes.{tci_size};
+ghost use Rattle.std.specs.Prelude.{◌≡◌};
 ghost use Rattle.verdict.specs.Tests.{support_of, is_zero_tci, inactive_of};
 
-use context::tci::{TCI_SIZE, TciNodeData};
+use context::tci::TciNodeData;
 use context::{Context, u8bool};
 use error::ValidationError;
 use table::{flags, support};
 
 // What a context uses against the support word.
+#[tactic(auto, unfolding(verdict::specs::Tests::support_of, verdict::specs::Tests::first, verdict::specs::Tests::need))]
 pub fn support_test(c: Context, word: u32) -> Result<(), ValidationError>
     ensures { result ≡ support_of word c }
 {
@@ -25,34 +24,23 @@ pub fn support_test(c: Context, word: u32) -> Result<(), ValidationError>
     if u8bool::get(c.uses_internal_input_info) & !flags::has_bit(word, support::INTERNAL_INFO_BIT) {
         return Err(ValidationError::InternalInfoNotSupported);
     }
-    if (c.parent_idx != context::ROOT_INDEX) & (u8bool::get(c.allow_x509) & !flags::has_bit(word, support::X509_BIT)) {
+    if (c.parent_idx != context::ROOT_INDEX)
+        & (u8bool::get(c.allow_x509) & !flags::has_bit(word, support::X509_BIT))
+    {
         return Err(ValidationError::AllowX509NotSupported);
     }
     Ok(())
-}
-
-// Whether a measurement is all zero.
-fn is_zero(a: [u8; TCI_SIZE]) -> bool
-    ensures { result ≡ same_bytes a (replicate tci_size 0) }
-{
-    let b = [0u8; TCI_SIZE];
-    let mut same = true;
-    for i in 0..TCI_SIZE {
-        same = same & (a[i] == b[i]);
-    }
-    same
 }
 
 // Whether nothing was measured.
 fn is_zero_tci(d: TciNodeData) -> bool
     ensures { result ≡ is_zero_tci d }
 {
-    let a = d.tci_cumulative;
-    let b = d.tci_current;
-    (d.tci_type == 0) & is_zero(a) & is_zero(b) & (d.locality == 0) & (d.svn == 0)
+    d == TciNodeData::new()
 }
 
 // A context that is not in use.
+#[tactic(auto, unfolding(verdict::specs::Tests::inactive_of, verdict::specs::Tests::first, verdict::specs::Tests::need))]
 pub fn inactive_test(c: Context) -> Result<(), ValidationError>
     ensures { result ≡ inactive_of c }
 {
