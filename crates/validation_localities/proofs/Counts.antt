@@ -1,4 +1,6 @@
 -- Counting in a locality, and the places of a table. Assumes nothing.
+use Rattle.std.specs.Prelude.{Result}
+use Rattle.error.specs.declared.ValidationError.{ValidationError}
 use mathlib.Core.Bool.{Bool, true, false, not, ◌&&◌, ◌||◌}
 use mathlib.Core.List.{List}
 use mathlib.Core.Path.{◌≡◌, refl, sym, ap, ap₂, ◌∙◌}
@@ -11,31 +13,55 @@ use lib.Seq.{take_all}
 use Rattle.children.specs.Below.{count, some, list_of}
 use Rattle.children.specs.Marks.{slot_count, marked, has_below}
 use Rattle.children.proofs.Cases.{clash, not-false, eqb-true, true-eqb}
-use Rattle.children.proofs.Below.{none-at}
+use Rattle.children.proofs.Below.{count-le, some_next, none-at}
 use Rattle.children.proofs.Marks.{has-is}
 use Rattle.context.specs.declared.Context.{Context}
-use Rattle.links.specs.Summary.{marks_of}
+use Rattle.links.specs.Summary.{marks_of, number_in}
 use Rattle.verdict.specs.Tests.{locality_at, default_at, other_at, within, mix_test}
 use Rattle.verdict.proofs.Localities.{Lone}
+use Rattle.validation_localities.specs.declared.Places.{Places}
 use Rattle.validation_localities.specs.Summary.{places_of, beside_in, crowded_in, tally}
 
+-- the tests of the slots of the locality l, up to each slot
+abbrev pub tests_at : Places → ℕ → ℕ → Result Unit ValidationError
+tests_at p l j = mix_test (count (within (number_in p.localities) (marked p.defaults) l) (suc j)) (count (within (number_in p.localities) (marked p.others) l) (suc j))
+
 -- one slot more of a locality, where `has_child` told of its mark
-pub count-more : (place : ℕ → ℕ) (w l k d r : ℕ) (b : Bool) → k < slot_count → d ≡ count (within place (marked w) l) k → b ≡ has_below slot_count w k
+count-more : (place : ℕ → ℕ) (w l k d r : ℕ) (b : Bool) → k < slot_count → d ≡ count (within place (marked w) l) k → b ≡ has_below slot_count w k
     → r ≡ tally (eqb (place k) l && b) d → r ≡ count (within place (marked w) l) (k + 1)
 unfolding count
 count-more place w l k d r b h e q p = p ∙ rw (add-one, e, q ∙ has-is slot_count w k h)
 
-pub mix_on : (f g : ℕ → Bool) (k d o : ℕ) → d ≡ count f (k + 1) → o ≡ count g (k + 1) → mix_test d o ≡ mix_test (count f (suc k)) (count g (suc k))
-mix_on f g k d o p q = ap₂ mix_test (p ∙ ap (count f) (add-one k)) (q ∙ ap (count g) (add-one k))
+-- and its test
+module _ (p : Places) (l k d o : ℕ) (h : k < slot_count) where
+  pub counted : {a b : Bool} {x y : ℕ}
+      → d ≡ count (within (number_in p.localities) (marked p.defaults) l) k → o ≡ count (within (number_in p.localities) (marked p.others) l) k
+      → a ≡ has_below slot_count p.defaults k → b ≡ has_below slot_count p.others k
+      → x ≡ tally (eqb (number_in p.localities k) l && a) d → y ≡ tally (eqb (number_in p.localities k) l && b) o
+      → (x ≡ count (within (number_in p.localities) (marked p.defaults) l) (k + 1)) × (y ≡ count (within (number_in p.localities) (marked p.others) l) (k + 1))
+      × (mix_test x y ≡ tests_at p l k)
+  counted {a} {b} {x} {y} ed eo ea eb ex ey =
+      let f = within (number_in p.localities) (marked p.defaults) l in
+      let g = within (number_in p.localities) (marked p.others) l in
+      let dx = count-more (number_in p.localities) p.defaults l k d x a h ed ea ex in
+      let oy = count-more (number_in p.localities) p.others l k o y b h eo eb ey in
+      (dx, oy, ap₂ mix_test (dx ∙ ap (count f) (add-one k)) (oy ∙ ap (count g) (add-one k)))
 
--- the code asks for both to be there
-pub not-both : (d o : ℕ) {r : Bool} → (not (eqb d 0) && not (eqb o 0)) ≡ r → (eqb d 0 || eqb o 0) ≡ not r
-not-both d o e = morgan (eqb d 0) (eqb o 0) ∙ ap not e
-  where
-    morgan : (x y : Bool) → (x || y) ≡ not (not x && not y)
-    morgan true y = refl
-    morgan false true = refl
-    morgan false false = refl
+-- before the first slot
+pub count_start : (f : ℕ → Bool) → 0 ≡ count f 0
+unfolding count
+count_start f = refl
+
+pub some_start : (f : ℕ → Bool) → some f 0 ≡ false
+unfolding some
+some_start f = refl
+
+-- what the check is given of the loops and of the marks
+pub ruleset counts = (count_start, count-le)
+
+pub ruleset somes = (some_start, some_next)
+
+pub ruleset marks = (has-is)
 
 module _ (s : ℕ → Context) (i : ℕ) (e : i ≡ slot_count) where
   pub places_made : (a : List ℕ) (l r : ℕ) → length a ≡ slot_count → take i a ≡ list_of (locality_at s) i

@@ -55,6 +55,7 @@ fn one_more(b: bool, x: usize) -> usize
 }
 
 // The active defaults and others of a locality, so far.
+#[tactic(auto, unfolding(verdict::specs::Tests::mix_test, verdict::specs::Tests::first, verdict::specs::Tests::need))]
 fn mix_test(d: usize, o: usize) -> Result<(), ValidationError>
     ensures { result ≡ mix_test d o }
 {
@@ -68,54 +69,56 @@ fn mix_test(d: usize, o: usize) -> Result<(), ValidationError>
 }
 
 // The locality l, slots upward.
-fn locality_test(localities: &[u32; MAX_HANDLES], defaults: u64, others: u64, l: u32) -> Result<(), ValidationError>
-    ensures { result ≡ locality_of slot_count (within (number_in localities.now) (marked defaults) l) (within (number_in localities.now) (marked others) l) }
+#[tactic(auto, using(verdict::proofs::Steps::below_none, crate::proofs::Counts::counts), unfolding(verdict::specs::Tests::locality_of))]
+fn locality_test(p: &Places, l: u32) -> Result<(), ValidationError>
+    ensures { result ≡ locality_of slot_count (within (number_in p.now.localities) (marked p.now.defaults) l) (within (number_in p.now.localities) (marked p.now.others) l) }
 {
     let mut d: usize = 0;
     let mut o: usize = 0;
     for k in 0..MAX_HANDLES {
-        let here = localities[k] == l;
-        d = one_more(here & children::has_child(defaults, k), d);
-        o = one_more(here & children::has_child(others, k), o);
-        let v = mix_test(d, o);
-        let Ok(()) = v else {
-            return v;
-        };
+        let here = p.localities[k] == l;
+        d = one_more(here & children::has_child(p.defaults, k), d);
+        o = one_more(here & children::has_child(p.others, k), o);
+        mix_test(d, o)?;
     }
     Ok(())
 }
 
 // Whether another default than slot i, or an active other, is in the locality of slot i.
-fn shares(localities: &[u32; MAX_HANDLES], defaults: u64, others: u64, i: usize) -> bool
+#[tactic(auto, using(crate::proofs::Counts::somes, crate::proofs::Counts::marks))]
+fn shares(p: &Places, i: usize) -> bool
     requires { i < slot_count }
-    ensures { result ≡ some (beside_in (number_in localities.now) (marked defaults) (marked others) i) slot_count }
+    ensures { result ≡ some (beside_in (number_in p.now.localities) (marked p.now.defaults) (marked p.now.others) i) slot_count }
 {
-    let l = localities[i];
+    let l = p.localities[i];
     let mut found = false;
     for k in 0..MAX_HANDLES {
-        let other = (children::has_child(defaults, k) & (k != i)) | children::has_child(others, k);
-        found = found | ((localities[k] == l) & other);
+        let other = (children::has_child(p.defaults, k) & (k != i))
+            | children::has_child(p.others, k);
+        found = found | ((p.localities[k] == l) & other);
     }
     found
 }
 
 // Whether slot i is an active default that is not alone in its locality.
-fn crowds(localities: &[u32; MAX_HANDLES], defaults: u64, others: u64, i: usize) -> bool
+#[tactic(auto, using(crate::proofs::Counts::marks))]
+fn crowds(p: &Places, i: usize) -> bool
     requires { i < slot_count }
-    ensures { result ≡ crowded_in slot_count (number_in localities.now) (marked defaults) (marked others) i }
+    ensures { result ≡ crowded_in slot_count (number_in p.now.localities) (marked p.now.defaults) (marked p.now.others) i }
 {
-    if !children::has_child(defaults, i) {
+    if !children::has_child(p.defaults, i) {
         return false;
     }
-    shares(localities, defaults, others, i)
+    shares(p, i)
 }
 
 // Whether some slot is. Where none is, no locality has a fault.
-fn is_crowded(localities: &[u32; MAX_HANDLES], defaults: u64, others: u64) -> bool
-    ensures { result ≡ some (crowded_in slot_count (number_in localities.now) (marked defaults) (marked others)) slot_count }
+#[tactic(auto, using(crate::proofs::Counts::somes))]
+fn is_crowded(p: &Places) -> bool
+    ensures { result ≡ some (crowded_in slot_count (number_in p.now.localities) (marked p.now.defaults) (marked p.now.others)) slot_count }
 {
     for i in 0..MAX_HANDLES {
-        if crowds(localities, defaults, others, i) {
+        if crowds(p, i) {
             return true;
         }
     }
@@ -123,24 +126,22 @@ fn is_crowded(localities: &[u32; MAX_HANDLES], defaults: u64, others: u64) -> bo
 }
 
 // The first fault of the localities of the slots, upward.
-fn first_fault(localities: &[u32; MAX_HANDLES], defaults: u64, others: u64) -> Result<(), ValidationError>
-    ensures { result ≡ localities_test slot_count (number_in localities.now) (marked defaults) (marked others) }
+#[tactic(auto, using(verdict::proofs::Steps::below_none, verdict::proofs::Steps::below_more), unfolding(verdict::specs::Tests::localities_test))]
+fn first_fault(p: &Places) -> Result<(), ValidationError>
+    ensures { result ≡ localities_test slot_count (number_in p.now.localities) (marked p.now.defaults) (marked p.now.others) }
 {
     for j in 0..MAX_HANDLES {
-        let v = locality_test(localities, defaults, others, localities[j]);
-        let Ok(()) = v else {
-            return v;
-        };
+        locality_test(p, p.localities[j])?;
     }
     Ok(())
 }
 
 // The localities of the slots, upward.
-pub fn localities_test(localities: &[u32; MAX_HANDLES], defaults: u64, others: u64) -> Result<(), ValidationError>
-    ensures { result ≡ localities_test slot_count (number_in localities.now) (marked defaults) (marked others) }
+pub fn localities_test(p: &Places) -> Result<(), ValidationError>
+    ensures { result ≡ localities_test slot_count (number_in p.now.localities) (marked p.now.defaults) (marked p.now.others) }
 {
-    if !is_crowded(localities, defaults, others) {
+    if !is_crowded(p) {
         return Ok(());
     }
-    first_fault(localities, defaults, others)
+    first_fault(p)
 }

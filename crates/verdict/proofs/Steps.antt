@@ -1,6 +1,8 @@
 -- A run of tests: one law for each way out of it, and what its answer says of each test. Assumes nothing.
 use Rattle.std.specs.Prelude.{Result, Ok, Err}
-use mathlib.Core.Path.{◌≡◌, refl, ap₂}
+use Rattle.std.specs.Result.{IsErrAnd}
+use Rattle.std.proofs.lemmas.Result.{err_from_is_err_and}
+use mathlib.Core.Path.{◌≡◌, refl, ap, ap₂, ◌∙◌}
 use mathlib.Core.Logic.{◌≢◌, ◌↔◌}
 use mathlib.Core.Bool.{Bool, true, false, not, ◌&&◌, ◌||◌}
 use Prim.Native.Nat.{ℕ, zero, suc, ◌+◌, ◌<◌}
@@ -15,6 +17,10 @@ use Rattle.verdict.specs.Tests.{need, first, first_below, where_of}
 
 pub fault_valid : {A : Type 0} {e : ValidationError} → ◌≡◌ {A = Result (Unit {0}) ValidationError} (Err e) (Ok tt) → A
 fault_valid q = absurd (cc)
+
+-- what the exit of a `?` returns, where the error stays as it is
+pub thrown : {T E : Type 0} {r : Result T E} {e : E} → IsErrAnd r (λ y. y ≡ e) → r ≡ Err e
+thrown {r} p = let q = err_from_is_err_and r p in q.1 ∙ ap Err q.2
 
 -- ---- one law for each way out
 
@@ -47,6 +53,10 @@ where_on b v p = rw p
 pub where_off : (b : Bool) (v : Result Unit ValidationError) → b ≡ false → where_of b v ≡ Ok tt
 unfolding where_of
 where_off b v p = rw p
+
+pub below_none : (f : ℕ → Result Unit ValidationError) → first_below f 0 ≡ Ok tt
+unfolding first_below
+below_none f = refl
 
 pub below_more : (f : ℕ → Result Unit ValidationError) (k : ℕ) → first_below f k ≡ Ok tt → f k ≡ Ok tt → first_below f (k + 1) ≡ Ok tt
 unfolding first_below first

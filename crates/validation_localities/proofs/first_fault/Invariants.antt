@@ -9,4 +9,4 @@ use Rattle.validation_localities.proofs.first_fault.Given as goal
 abbrev pub invariant-loop-j : goal.invariant-loop-j
 invariant-loop-j l =
     (l.j ≤ slot_count)
-    × (first_below (λ (i : ℕ). locality_of slot_count (within (number_in l.localities) (marked l.defaults) (number_in l.localities i)) (within (number_in l.localities) (marked l.others) (number_in l.localities i))) l.j ≡ Ok tt)
+    × (first_below (λ (i : ℕ). locality_of slot_count (within (number_in l.p.localities) (marked l.p.defaults) (number_in l.p.localities i)) (within (number_in l.p.localities) (marked l.p.others) (number_in l.p.localities i))) l.j ≡ Ok tt)

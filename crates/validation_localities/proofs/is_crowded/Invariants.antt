@@ -9,4 +9,4 @@ use Rattle.validation_localities.proofs.is_crowded.Given as goal
 
 abbrev pub invariant-loop-i : goal.invariant-loop-i
 invariant-loop-i l =
-    (l.i ≤ slot_count) × (some (crowded_in slot_count (number_in l.localities) (marked l.defaults) (marked l.others)) l.i ≡ false)
+    (l.i ≤ slot_count) × (some (crowded_in slot_count (number_in l.p.localities) (marked l.p.defaults) (marked l.p.others)) l.i ≡ false)

@@ -9,4 +9,4 @@ use Rattle.validation_localities.proofs.localities_test.Goals as goal
 pub returns-then-not-is_crowded : goal.returns-then-not-is_crowded
 returns-then-not-is_crowded c =
     let a = c.args in
-    sym (lone_valid slot_count _ _ _ (lone_of slot_count (number_in a.localities.now) (marked a.defaults) (marked a.others) (sym c.is_crowded.ensures ∙ c.if-not-is_crowded.true)))
+    sym (lone_valid slot_count _ _ _ (lone_of slot_count (number_in a.p.now.localities) (marked a.p.now.defaults) (marked a.p.now.others) (sym c.is_crowded.ensures ∙ c.if-not-is_crowded.true)))

@@ -8,4 +8,4 @@ use Rattle.validation_localities.proofs.shares.Given as goal
 
 abbrev pub invariant-loop-k : goal.invariant-loop-k
 invariant-loop-k l =
-    (l.k ≤ slot_count) × (l.found ≡ some (beside_in (number_in l.localities) (marked l.defaults) (marked l.others) l.i) l.k)
+    (l.k ≤ slot_count) × (l.found ≡ some (beside_in (number_in l.p.localities) (marked l.p.defaults) (marked l.p.others) l.i) l.k)
