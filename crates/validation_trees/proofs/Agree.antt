@@ -14,10 +14,10 @@ use Rattle.links.specs.declared.Links.{Links}
 use Rattle.links.specs.Summary.{table_of, summary_of}
 use Rattle.links.proofs.Summary.{says_kids, says-parent, says-live, says-simulation}
 use Rattle.verdict.specs.Tests.{kind_at, found_fault, forest_of}
-use Rattle.validation_trees.specs.Summary.{kind_in, table_in}
+use Rattle.validation_trees.specs.Summary.{kind_in, table_in, table_by}
 
 module _ (s : ℕ → Context) (l : Links) (e : l ≡ summary_of s) where
-  agree : Agree slot_count (table_in l.children l.parents l.live) (table_of slot_count s) (kind_in l.simulations) (kind_at s)
+  agree : Agree slot_count (table_by l) (table_of slot_count s) (kind_in l.simulations) (kind_at s)
   unfolding table_in
   agree = record {
     live_is = λ i h. rw (lt-ltb i slot_count h) (says-live s l e i h);
@@ -29,6 +29,6 @@ module _ (s : ℕ → Context) (l : Links) (e : l ≡ summary_of s) where
     kind_is = λ i h. ap byte_of (says-simulation s l e i h);
   }
 
-  pub forest_by : found_fault (find_fault slot_count (table_in l.children l.parents l.live) (kind_in l.simulations)) ≡ forest_of slot_count s
+  pub forest_by : found_fault (find_fault slot_count (table_by l) (kind_in l.simulations)) ≡ forest_of slot_count s
   unfolding forest_of
   forest_by = ap found_fault (fault_same slot_count _ _ _ _ agree)

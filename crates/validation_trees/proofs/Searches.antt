@@ -1,7 +1,6 @@
 -- The search below a slot and from the roots, one law for each way out; and the last tests. Assumes nothing.
 use Rattle.std.specs.Prelude.{Ok, Err}
 use mathlib.Core.Bool.{Bool, true, false, not, cond, ◌&&◌, ◌||◌}
-use mathlib.Core.List.{List, []}
 use mathlib.Core.Logic.{inl, inr}
 use mathlib.Core.Path.{◌≡◌, refl, sym, ap, ◌∙◌}
 use Prim.Native.Nat.{ℕ, zero, suc, ◌+◌, ◌-◌, ◌≤◌, ◌<◌}
@@ -13,32 +12,26 @@ use borrow.Author.Tests.{lt-ltb, le-ltb, eq-eqb, ne_eqb}
 use Rattle.error.specs.declared.ValidationError.{ValidationError}
 use Rattle.error.specs.declared.ValidationError.TheVariants.{MultipleNormalConnectedComponents, CyclesInTree, MixedContextTypeConnectedComponents}
 use Rattle.children.specs.Below.{count, every}
-use Rattle.children.specs.Marks.{slot_count, mark_count, marked, with, without, count_below, next_below}
+use Rattle.children.specs.Marks.{slot_count, mark_count, marked, has_below, with, without, count_below, next_below}
 use Rattle.children.proofs.Cases.{two, clash}
-use Rattle.children.proofs.Below.{low_ge, low-le, low_bare, count_none, count-some, every-at, at_every}
-use Rattle.children.proofs.Marks.{marked-without, next-marked}
+use Rattle.children.proofs.Below.{low_ge, low-le, low_bare, count_none, count-some, count_hit, count_miss, count-le, every-at, at_every}
+use Rattle.children.proofs.Marks.{has-is, seen, marked-without, next-marked}
+use Rattle.context.specs.Bytes.{byte_of}
 use Rattle.context.specs.Context.{no_parent}
 use Rattle.forest.specs.Links.{Table}
 use Rattle.forest.specs.Search.{Verdict, cycles, mixed, fine, and_then, each, visit, is_root, search_roots, normal_root, last_tests, judge, find_fault}
+use Rattle.links.specs.declared.Links.{Links}
 use Rattle.links.specs.Summary.{number_in}
 use Rattle.verdict.specs.Tests.{found_fault}
-use Rattle.validation_trees.specs.Summary.{table_in, told, root_step, seen_in}
+use Rattle.validation_trees.specs.Summary.{kind_in, table_in, table_by, told, root_step, seen_in}
 
 -- ---- what the code answers for a search
 
 pub told_seen : (v : Verdict) (w : ℕ) → told v ≡ Ok w → v ≡ fine w
 unfolding told
-told_seen cycles w e = absurd (let z : ◌≡◌ {A = ℕ} 0 1 = cc in omega arith)
-told_seen mixed w e = absurd (let z : ◌≡◌ {A = ℕ} 0 1 = cc in omega arith)
+told_seen cycles w e = absurd (cc)
+told_seen mixed w e = absurd (cc)
 told_seen (fine z) w e = let q : z ≡ w = cc in ap fine q
-
-pub is-cycles : (v : Verdict) → v ≡ cycles → Err CyclesInTree ≡ told v
-unfolding told
-is-cycles v e = rw e
-
-pub is-mixed : (v : Verdict) → v ≡ mixed → Err MixedContextTypeConnectedComponents ≡ told v
-unfolding told
-is-mixed v e = rw e
 
 pub is_seen : (v : Verdict) (w : ℕ) → v ≡ fine w → Ok w ≡ told v
 unfolding told
@@ -65,7 +58,7 @@ module _ (rec : ℕ → ℕ → Verdict) (m : ℕ → Bool) (z : ℕ) where
   unfolding told
   each_flaw k n w e cycles h p b q f = rw (stays k n w cycles (λ g. refl) h p b q) f
   each_flaw k n w e mixed h p b q f = rw (stays k n w mixed (λ g. refl) h p b q) f
-  each_flaw k n w e (fine x) h p b q f = absurd (let z : ◌≡◌ {A = ℕ} 0 1 = cc in omega arith)
+  each_flaw k n w e (fine x) h p b q f = absurd (cc)
 
   -- slots that are no members are passed over
   skip : (a b w : ℕ) → a ≤ b → ((j : ℕ) → a ≤ j → j < b → m j ≡ false) → each rec m z a ≡ fine w → each rec m z b ≡ fine w
@@ -111,43 +104,39 @@ module _ (n : ℕ) (t : Table) (kind : ℕ → ℕ) (k d z s : ℕ) where
   pub visit-mixed : (d ≡ 0 → ⊥) → marked z s ≡ false → t.live s ≡ true → (kind s ≡ k → ⊥) → visit n t kind k d z s ≡ mixed
   visit-mixed h a b c = step h ∙ rw (a, b, ne_eqb (kind s) k c)
 
-  pub visit-over : (met : ℕ) → met ≡ with z s → (d ≡ 0 → ⊥) → marked z s ≡ false → t.live s ≡ true → kind s ≡ k
+  visit-over : (met : ℕ) → met ≡ with z s → (d ≡ 0 → ⊥) → marked z s ≡ false → t.live s ≡ true → kind s ≡ k
       → visit n t kind k d z s ≡ each (visit n t kind k (d - 1)) (t.mark s) met n
   visit-over met e h a b c =
       step h ∙ rw (a, b, eq-eqb (kind s) k c) (ap (λ (x : ℕ). each (visit n t kind k (d - 1)) (t.mark s) x n) (sym e))
 
--- ---- the links that arrays and a word say
+-- ---- the links that a summary says
 
-module _ (children parents : List ℕ) (live : ℕ) where
-  pub live_in : (s : ℕ) → s < slot_count → (table_in children parents live).live s ≡ marked live s
+module _ (l : Links) (s : ℕ) (h : s < slot_count) where
+  pub live_in : (table_by l).live s ≡ marked l.live s
   unfolding table_in
-  live_in s h = rw (lt-ltb s slot_count h)
+  live_in = rw (lt-ltb s slot_count h)
 
-  pub mark_in : (s : ℕ) → s < slot_count → (j : ℕ) → j < slot_count → (table_in children parents live).mark s j ≡ marked (number_in children s) j
+  pub mark_in : (j : ℕ) → j < slot_count → (table_by l).mark s j ≡ marked (number_in l.children s) j
   unfolding table_in
-  mark_in s h j l = rw (lt-ltb s slot_count h, lt-ltb j mark_count (omega arith))
+  mark_in j g = rw (lt-ltb s slot_count h, lt-ltb j mark_count (omega arith))
 
-  pub root_in : (i : ℕ) → i < slot_count → is_root (table_in children parents live) i ≡ (marked live i && eqb (number_in parents i) no_parent)
+  pub root_in : is_root (table_by l) s ≡ (marked l.live s && eqb (number_in l.parents s) no_parent)
   unfolding table_in
-  root_in i h = rw (lt-ltb i slot_count h) (guarded (marked live i))
+  root_in = rw (lt-ltb s slot_count h) (guarded (marked l.live s))
     where
-      guarded : (b : Bool) → (b && eqb (cond b (number_in parents i) no_parent) no_parent) ≡ (b && eqb (number_in parents i) no_parent)
+      guarded : (b : Bool) → (b && eqb (cond b (number_in l.parents s) no_parent) no_parent) ≡ (b && eqb (number_in l.parents s) no_parent)
       guarded true = refl
       guarded false = refl
 
-  -- a visit asks for no parent
-  pub no_parents : (n : ℕ) (kind : ℕ → ℕ) (k d z s : ℕ) → visit n (table_in children [] live) kind k d z s ≡ visit n (table_in children parents live) kind k d z s
-  unfolding visit table_in
-  no_parents n kind k zero z s = refl
-  no_parents n kind k (suc d) z s =
-      let t = table_in children [] live in
-      ap (λ (rec : ℕ → ℕ → Verdict). cond (marked z s) cycles (cond (t.live s) (cond (eqb (kind s) k) (each rec (t.mark s) (with z s) n) mixed) cycles))
-      (λ i z s. no_parents n kind k d z s i)
-
--- the marks are no matter for a root
-pub same-root : (children parents : List ℕ) (live i : ℕ) → is_root (table_in [] parents live) i ≡ is_root (table_in children parents live) i
-unfolding table_in
-same-root children parents live i = refl
+-- past the tests of a slot, as the code makes them
+module _ (l : Links) (k d z s met : ℕ) (h : s < slot_count) where
+  pub entered : {a b c : Bool} {x : ℕ} → (d ≡ 0 → ⊥) → a ≡ has_below slot_count z s → a ≡ false → b ≡ has_below slot_count l.live s → b ≡ true
+      → c ≡ has_below slot_count l.simulations s → x ≡ byte_of c → x ≡ k → met ≡ with z s
+      → visit slot_count (table_by l) (kind_in l.simulations) k d z s ≡ each (visit slot_count (table_by l) (kind_in l.simulations) k (d - 1)) ((table_by l).mark s) met slot_count
+  entered nz ea fa eb fb ec ex fx em =
+      visit-over slot_count (table_by l) (kind_in l.simulations) k d z s met em nz (seen slot_count z s h ea fa)
+      (live_in l s h ∙ seen slot_count l.live s h eb fb)
+      (sym (ex ∙ ap byte_of (ec ∙ has-is slot_count l.simulations s h)) ∙ fx)
 
 -- ---- from the roots
 
@@ -164,6 +153,10 @@ module _ (t : Table) (kind : ℕ → ℕ) where
   abbrev pub Roots : ℕ → Verdict
   Roots k = each (λ z i. visit slot_count t kind (kind i) slot_count z i) (is_root t) 0 k
 
+  pub roots_start : Roots 0 ≡ fine 0
+  unfolding each
+  roots_start = refl
+
   pub roots_on : (k w w' : ℕ) → Roots k ≡ fine w → root_step t kind w k ≡ fine w' → Roots (k + 1) ≡ fine w'
   unfolding each root_step
   roots_on k w w' e q = rw (add-one, each, e) q
@@ -176,16 +169,13 @@ module _ (t : Table) (kind : ℕ → ℕ) where
   unfolding told
   roots_flaw k n w e cycles h p q f = rw (flawed k n w cycles (λ g. refl) h p q) f
   roots_flaw k n w e mixed h p q f = rw (flawed k n w mixed (λ g. refl) h p q) f
-  roots_flaw k n w e (fine x) h p q f = absurd (let z : ◌≡◌ {A = ℕ} 0 1 = cc in omega arith)
+  roots_flaw k n w e (fine x) h p q f = absurd (cc)
 
 -- ---- Normal roots
 
-pub normal-is : (r b : Bool) {R B : Bool} → r ≡ R → b ≡ B → (r && not b) ≡ (R && eqb (cond B 1 0) 0)
-normal-is r b p q = rw (sym p, sym q) (zero_is b)
-  where
-    zero_is : (b : Bool) → (r && not b) ≡ (r && eqb (cond b 1 0) 0)
-    zero_is true = refl
-    zero_is false = refl
+pub count_start : (f : ℕ → Bool) → 0 ≡ count f 0
+unfolding count
+count_start f = refl
 
 -- ---- every live slot seen
 
@@ -215,32 +205,25 @@ module _ (live seen : ℕ) where
 
 -- ---- the last tests
 
-module _ (parents : List ℕ) (live z k : ℕ) where
-  pub last_many : 1 < k → Err MultipleNormalConnectedComponents ≡ found_fault (last_tests slot_count (table_in [] parents live) z k)
+module _ (l : Links) (z k : ℕ) where
+  pub last_many : 1 < k → Err MultipleNormalConnectedComponents ≡ found_fault (last_tests slot_count (table_by l) z k)
   unfolding last_tests found_fault
   last_many h = rw (lt-ltb 1 k h)
 
-  pub last-cycles : k ≤ 1 → every (seen_in live z) slot_count ≡ false → Err CyclesInTree ≡ found_fault (last_tests slot_count (table_in [] parents live) z k)
+  pub last-cycles : k ≤ 1 → every (seen_in l.live z) slot_count ≡ false → Err CyclesInTree ≡ found_fault (last_tests slot_count (table_by l) z k)
   unfolding last_tests found_fault table_in
   last-cycles h e = rw (le-ltb 1 k h, e)
 
-  pub last_valid : k ≤ 1 → every (seen_in live z) slot_count ≡ true → (Ok tt) ≡ found_fault (last_tests slot_count (table_in [] parents live) z k)
+  pub last_valid : k ≤ 1 → every (seen_in l.live z) slot_count ≡ true → Ok tt ≡ found_fault (last_tests slot_count (table_by l) z k)
   unfolding last_tests found_fault table_in
   last_valid h e = rw (le-ltb 1 k h, e)
-
--- they look at no mark
-pub same_last : (children parents : List ℕ) (live z : ℕ) (kind : ℕ → ℕ)
-    → found_fault (last_tests slot_count (table_in [] parents live) z (count (normal_root (table_in [] parents live) kind) slot_count))
-    ≡ found_fault (last_tests slot_count (table_in children parents live) z (count (normal_root (table_in children parents live) kind) slot_count))
-unfolding table_in last_tests
-same_last children parents live z kind = refl
 
 module _ (t : Table) (kind : ℕ → ℕ) where
   judged_flaw : (v : Verdict) (e : ValidationError) → told v ≡ Err e → Err e ≡ found_fault (judge slot_count t v (count (normal_root t kind) slot_count))
   unfolding told judge found_fault
   judged_flaw cycles e f = let q : e ≡ CyclesInTree = cc in ap Err q
   judged_flaw mixed e f = let q : e ≡ MixedContextTypeConnectedComponents = cc in ap Err q
-  judged_flaw (fine z) e f = absurd (let z : ◌≡◌ {A = ℕ} 0 1 = cc in omega arith)
+  judged_flaw (fine z) e f = absurd (cc)
 
   pub found_flaw : (e : ValidationError) → told (search_roots slot_count t kind) ≡ Err e → Err e ≡ found_fault (find_fault slot_count t kind)
   unfolding find_fault
@@ -250,3 +233,18 @@ module _ (t : Table) (kind : ℕ → ℕ) where
       → found_fault (last_tests slot_count t z (count (normal_root t kind) slot_count)) ≡ found_fault (find_fault slot_count t kind)
   unfolding find_fault judge
   found_seen z e = rw e
+
+-- what the check is given of the marks, of a slot, and of the roots
+pub ruleset marks = (has-is)
+
+pub ruleset visits = (visit_spent, visit_met, visit-idle, visit-mixed, live_in)
+
+pub ruleset steps = (step_none, step-root)
+
+pub ruleset roots = (roots_start, roots_on)
+
+pub ruleset normals = (count_start, count_hit, count_miss, count-le)
+
+pub ruleset seens = (seen-is)
+
+pub ruleset lasts = (last_many, last-cycles, last_valid)

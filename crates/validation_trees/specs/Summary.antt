@@ -7,6 +7,7 @@ use Rattle.context.specs.Bytes.{byte_of}
 use Rattle.forest.specs.Links.{Table, links_in}
 use Rattle.forest.specs.Search.{cycles, mixed, fine, visit, is_root}
 use Rattle.forest.specs.Search as search
+use Rattle.links.specs.declared.Links.{Links}
 use Rattle.links.specs.Summary.{number_in}
 
 -- the number of a slot's type, by the marks of the simulations
@@ -16,6 +17,10 @@ kind_in w i = byte_of (marked w i)
 -- the links that two arrays and a word say; which slots are retired is no matter here
 unfoldable pub table_in : List ℕ → List ℕ → ℕ → Table
 table_in children parents live = links_in slot_count (marked live) (λ i. false) (number_in parents) (number_in children)
+
+-- the same, as a summary says
+abbrev pub table_by : Links → Table
+table_by l = table_in l.children l.parents l.live
 
 -- what the code answers for a search
 unfoldable pub told : search.Verdict → Result ℕ ValidationError

@@ -1,29 +1,29 @@
 // The validator's tests of the forest: types below each root, Normal roots, cycles. validation.rs.
 #![tactic(auto)]
 
-ghost use Rattle.std.specs.Prelude.{◌≡◌, [], ◌<◌};
+ghost use Rattle.std.specs.Prelude.{◌≡◌, ◌<◌};
 ghost use Rattle.children.specs.Below.{count, every};
 ghost use Rattle.children.specs.Marks.{slot_count};
 ghost use Rattle.forest.specs.Search.{visit, is_root, search_roots, normal_root, last_tests, find_fault};
 ghost use Rattle.verdict.specs.Tests.{found_fault};
-ghost use Rattle.validation_trees.specs.Summary.{table_in, kind_in, told, root_step, seen_in};
+ghost use Rattle.validation_trees.specs.Summary.{table_by, kind_in, told, root_step, seen_in};
 
 use children::MAX_HANDLES;
 use context::u8bool;
 use error::ValidationError;
+use links::Links;
 
 // The slots below a slot, all of the type `kind`. `seen` marks the slots met so far; `depth` falls.
+#[tactic(auto, using(crate::proofs::Searches::visits, crate::proofs::Searches::marks), unfolding(crate::specs::Summary::told))]
 fn detect_invalid_subtree(
-    children: &[u64; MAX_HANDLES],
-    live: u64,
-    simulations: u64,
+    l: &Links,
     kind: u8,
     seen: u64,
     slot: usize,
     depth: usize,
 ) -> Result<u64, ValidationError>
     requires { slot < slot_count }
-    ensures { result ≡ told (visit slot_count (table_in children.now [] live) (kind_in simulations) kind depth seen slot) }
+    ensures { result ≡ told (visit slot_count (table_by l.now) (kind_in l.now.simulations) kind depth seen slot) }
 {
     if depth == 0 {
         return Err(ValidationError::CyclesInTree);
@@ -31,80 +31,64 @@ fn detect_invalid_subtree(
     if children::has_child(seen, slot) {
         return Err(ValidationError::CyclesInTree);
     }
-    if !children::has_child(live, slot) {
+    if !children::has_child(l.live, slot) {
         return Err(ValidationError::CyclesInTree);
     }
-    if u8bool::new(children::has_child(simulations, slot)) != kind {
+    if u8bool::new(children::has_child(l.simulations, slot)) != kind {
         return Err(ValidationError::MixedContextTypeConnectedComponents);
     }
     let mut met = children::with(seen, slot);
-    let kids = children[slot];
+    let kids = l.children[slot];
     let mut k = children::next(kids, 0);
     while k < MAX_HANDLES {
-        let w = detect_invalid_subtree(children, live, simulations, kind, met, k, depth - 1);
-        let Ok(m) = w else {
-            return w;
-        };
-        met = m;
+        met = detect_invalid_subtree(l, kind, met, k, depth - 1)?;
         k = children::next(kids, k + 1);
     }
     Ok(met)
 }
 
 // Whether a slot is live and has no parent.
-fn is_root(parents: &[u8; MAX_HANDLES], live: u64, i: usize) -> bool
+#[tactic(auto, using(crate::proofs::Searches::root_in, crate::proofs::Searches::marks))]
+fn is_root(l: &Links, i: usize) -> bool
     requires { i < slot_count }
-    ensures { result ≡ is_root (table_in [] parents.now live) i }
+    ensures { result ≡ is_root (table_by l.now) i }
 {
-    children::has_child(live, i) & (parents[i] == context::ROOT_INDEX)
+    children::has_child(l.live, i) & (l.parents[i] == context::ROOT_INDEX)
 }
 
 // The slots below the slot i, where it is a root.
-fn root_step(
-    children: &[u64; MAX_HANDLES],
-    parents: &[u8; MAX_HANDLES],
-    live: u64,
-    simulations: u64,
-    seen: u64,
-    i: usize,
-) -> Result<u64, ValidationError>
+#[tactic(auto, using(crate::proofs::Searches::steps, crate::proofs::Searches::marks), unfolding(crate::specs::Summary::told))]
+fn root_step(l: &Links, seen: u64, i: usize) -> Result<u64, ValidationError>
     requires { i < slot_count }
-    ensures { result ≡ told (root_step (table_in children.now parents.now live) (kind_in simulations) seen i) }
+    ensures { result ≡ told (root_step (table_by l.now) (kind_in l.now.simulations) seen i) }
 {
-    if !is_root(parents, live, i) {
+    if !is_root(l, i) {
         return Ok(seen);
     }
-    let kind = u8bool::new(children::has_child(simulations, i));
-    detect_invalid_subtree(children, live, simulations, kind, seen, i, MAX_HANDLES)
+    let kind = u8bool::new(children::has_child(l.simulations, i));
+    detect_invalid_subtree(l, kind, seen, i, MAX_HANDLES)
 }
 
 // The slots below all roots, upward.
-fn search_roots(
-    children: &[u64; MAX_HANDLES],
-    parents: &[u8; MAX_HANDLES],
-    live: u64,
-    simulations: u64,
-) -> Result<u64, ValidationError>
-    ensures { result ≡ told (search_roots slot_count (table_in children.now parents.now live) (kind_in simulations)) }
+#[tactic(auto, using(crate::proofs::Searches::roots, crate::proofs::Searches::told_seen), unfolding(crate::specs::Summary::told, forest::specs::Search::search_roots))]
+fn search_roots(l: &Links) -> Result<u64, ValidationError>
+    ensures { result ≡ told (search_roots slot_count (table_by l.now) (kind_in l.now.simulations)) }
 {
     let mut seen = children::empty();
     for i in 0..MAX_HANDLES {
-        let w = root_step(children, parents, live, simulations, seen, i);
-        let Ok(m) = w else {
-            return w;
-        };
-        seen = m;
+        seen = root_step(l, seen, i)?;
     }
     Ok(seen)
 }
 
 // How many roots are Normal.
-fn normal_roots(parents: &[u8; MAX_HANDLES], live: u64, simulations: u64) -> usize
-    ensures { result ≡ count (normal_root (table_in [] parents.now live) (kind_in simulations)) slot_count }
+#[tactic(auto, using(crate::proofs::Searches::normals, crate::proofs::Searches::marks))]
+fn normal_roots(l: &Links) -> usize
+    ensures { result ≡ count (normal_root (table_by l.now) (kind_in l.now.simulations)) slot_count }
 {
     let mut found: usize = 0;
     for i in 0..MAX_HANDLES {
-        if is_root(parents, live, i) & !children::has_child(simulations, i) {
+        if is_root(l, i) & !children::has_child(l.simulations, i) {
             found += 1;
         }
     }
@@ -112,6 +96,7 @@ fn normal_roots(parents: &[u8; MAX_HANDLES], live: u64, simulations: u64) -> usi
 }
 
 // Whether every live slot was seen.
+#[tactic(auto, using(crate::proofs::Searches::seens))]
 fn all_seen(live: u64, seen: u64) -> bool
     ensures { result ≡ every (seen_in live seen) slot_count }
 {
@@ -119,30 +104,23 @@ fn all_seen(live: u64, seen: u64) -> bool
 }
 
 // What is left to test after the search.
-fn last_tests(parents: &[u8; MAX_HANDLES], live: u64, simulations: u64, seen: u64) -> Result<(), ValidationError>
-    ensures { result ≡ found_fault (last_tests slot_count (table_in [] parents.now live) seen (count (normal_root (table_in [] parents.now live) (kind_in simulations)) slot_count)) }
+#[tactic(auto, using(crate::proofs::Searches::lasts))]
+fn last_tests(l: &Links, seen: u64) -> Result<(), ValidationError>
+    ensures { result ≡ found_fault (last_tests slot_count (table_by l.now) seen (count (normal_root (table_by l.now) (kind_in l.now.simulations)) slot_count)) }
 {
-    if normal_roots(parents, live, simulations) > 1 {
+    if normal_roots(l) > 1 {
         return Err(ValidationError::MultipleNormalConnectedComponents);
     }
-    if !all_seen(live, seen) {
+    if !all_seen(l.live, seen) {
         return Err(ValidationError::CyclesInTree);
     }
     Ok(())
 }
 
 // The search from the roots, and then the last tests.
-pub fn trees_test(
-    children: &[u64; MAX_HANDLES],
-    parents: &[u8; MAX_HANDLES],
-    live: u64,
-    simulations: u64,
-) -> Result<(), ValidationError>
-    ensures { result ≡ found_fault (find_fault slot_count (table_in children.now parents.now live) (kind_in simulations)) }
+pub fn trees_test(l: &Links) -> Result<(), ValidationError>
+    ensures { result ≡ found_fault (find_fault slot_count (table_by l.now) (kind_in l.now.simulations)) }
 {
-    let w = search_roots(children, parents, live, simulations);
-    match w {
-        Ok(seen) => last_tests(parents, live, simulations, seen),
-        Err(e) => Err(e),
-    }
+    let seen = search_roots(l)?;
+    last_tests(l, seen)
 }
