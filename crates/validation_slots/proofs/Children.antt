@@ -1,7 +1,7 @@
 -- The marks of a slot, tested from mark to mark, and those above the slots in one test. Assumes nothing.
 use Rattle.error.specs.declared.ValidationError.{ValidationError}
 use Rattle.std.specs.Prelude.{Result, Ok, Err}
-use mathlib.Core.Bool.{Bool, true, false}
+use mathlib.Core.Bool.{Bool, true, false, not}
 use mathlib.Core.Path.{◌≡◌, sym, ap, ◌∙◌}
 use Prim.Native.Nat.{ℕ, ◌+◌, ◌-◌, ◌/◌, ◌%◌, ◌^◌, ◌≤◌, ◌<◌}
 use native.Mathlib.Nat.{div-lt_iff_lt-mul, one-mul}
@@ -9,12 +9,13 @@ use native.Mathlib.Decide.{dec_lt}
 use native.Mathlib.Omega.{arith}
 use lib.Dec.{eqb}
 use lib.Pow.{pow_pos, pow-add, shr-shr}
-use borrow.Author.Tests.{lt-ltb, le-ltb}
+use borrow.Author.Tests.{lt-ltb, le-ltb, eq-eqb}
 use Rattle.error.specs.declared.ValidationError.TheVariants.{ChildDoesNotExist}
 use Rattle.children.specs.Below.{lowest_from}
 use Rattle.children.specs.Marks.{mark_count, marked, next_below}
+use Rattle.children.proofs.Cases.{clash, eqb-true, not-false}
 use Rattle.children.proofs.Below.{low_ge, low-le, low_bare, low_passes}
-use Rattle.children.proofs.Marks.{marked-high, no-marks}
+use Rattle.children.proofs.Marks.{has-is, marked-high, no-marks}
 use Rattle.verdict.specs.Tests.{first_below, child_test}
 use Rattle.verdict.proofs.Steps.{pass, stop, where_on, where_off, below_iff, below_stop}
 use Rattle.validation_slots.specs.Summary.{slot_child}
@@ -58,13 +59,14 @@ module _ (n : ℕ) (live : ℕ → Bool) (parent : ℕ → ℕ) (i m : ℕ) wher
   unfolding marked
   above j = ap (λ (x : ℕ). eqb (x % 2) 1) (shr-shr m n j)
 
-  pub none_above : m / 2 ^ n ≡ 0 → first_below Child n ≡ Ok tt → first_below Child mark_count ≡ Ok tt
-  none_above z e =
+  pub none_above : not (eqb (m / 2 ^ n) 0) ≡ false → first_below Child n ≡ Ok tt → first_below Child mark_count ≡ Ok tt
+  none_above b e =
+      let z = eqb-true (m / 2 ^ n) 0 (not-false _ b) in
       let small : m < 2 ^ n = rw (one-mul (2 ^ n)) at ((div-lt_iff_lt-mul {x = m} {y = 1} (pow_pos n)).0 (omega arith)) in
       skip n mark_count (λ j l h. marked-high n m j small l) e
 
-  pub some-above : n ≤ mark_count → m < 2 ^ mark_count → (m / 2 ^ n ≡ 0 → ⊥) → first_below Child n ≡ Ok tt → first_below Child mark_count ≡ Err ChildDoesNotExist
-  some-above few word nz e =
+  pub some-above : n ≤ mark_count → m < 2 ^ mark_count → not (eqb (m / 2 ^ n) 0) ≡ true → first_below Child n ≡ Ok tt → first_below Child mark_count ≡ Err ChildDoesNotExist
+  some-above few word b e =
       let g = mark_count - n in
       let k = lowest_from (marked m) g n in
       let q : g + n ≡ mark_count = omega arith in
@@ -72,5 +74,8 @@ module _ (n : ℕ) (live : ℕ → Bool) (parent : ℕ → ℕ) (i m : ℕ) wher
       elim (dec_lt k mark_count) [
         | yes l ↦ below_stop Child k mark_count ChildDoesNotExist l (skip n k (low_bare (marked m) g n) e)
             (child-above k (low_ge (marked m) g n) (low_passes (marked m) g n (omega arith)))
-        | no nl ↦ absurd (nz (no-marks g (m / 2 ^ n) small (λ j h. above j ∙ low_bare (marked m) g n (n + j) (omega arith) (omega arith))))
+        | no nl ↦ clash b (rw (eq-eqb _ 0 (no-marks g (m / 2 ^ n) small (λ j h. above j ∙ low_bare (marked m) g n (n + j) (omega arith) (omega arith)))))
       ]
+
+-- what the check is given of the marks
+pub ruleset marks = (has-is)

@@ -1,4 +1,3 @@
--- Laws that belong to no one function: one for each way out of a test of a slot, and of its marks.
-pub mod Exits
+-- Laws that belong to no one function: the marks of a slot, and the tests over a summary.
 pub mod Children
 pub mod Agree

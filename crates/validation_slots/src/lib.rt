@@ -11,14 +11,17 @@ ghost use Rattle.validation_slots.specs.Summary.{slot_child, links_on, slot_in};
 use children::MAX_HANDLES;
 use context::{Context, ContextState, u8bool};
 use error::ValidationError;
+use links::Links;
 use table::state::State;
 use table::support;
 
-// The parent p of the slot i.
-fn parent_test(children: &[u64; MAX_HANDLES], live: u64, i: usize, p: u8) -> Result<(), ValidationError>
+// The parent of the slot i.
+#[tactic(auto, using(crate::proofs::Children::marks), unfolding(verdict::specs::Tests::parent_test, verdict::specs::Tests::where_of, verdict::specs::Tests::first, verdict::specs::Tests::need))]
+fn parent_test(l: &Links, i: usize) -> Result<(), ValidationError>
     requires { i < slot_count }
-    ensures { result ≡ parent_test slot_count (marked live) (number_in children.now) i p }
+    ensures { result ≡ parent_test slot_count (marked l.now.live) (number_in l.now.children) i (number_in l.now.parents i) }
 {
+    let p = l.parents[i];
     if p == context::ROOT_INDEX {
         return Ok(());
     }
@@ -26,24 +29,25 @@ fn parent_test(children: &[u64; MAX_HANDLES], live: u64, i: usize, p: u8) -> Res
     if q >= MAX_HANDLES {
         return Err(ValidationError::ParentDoesNotExist);
     }
-    if !children::has_child(live, q) {
+    if !children::has_child(l.live, q) {
         return Err(ValidationError::InactiveParent);
     }
-    if !children::has_child(children[q], i) {
+    if !children::has_child(l.children[q], i) {
         return Err(ValidationError::ParentChildLinksCorrupted);
     }
     Ok(())
 }
 
-// The slot k, which the slot i marks as its child, and whose parent is p.
-fn child_test(live: u64, i: usize, k: usize, p: u8) -> Result<(), ValidationError>
+// The slot k, which the slot i marks as its child.
+#[tactic(auto, using(crate::proofs::Children::marks), unfolding(verdict::specs::Tests::first, verdict::specs::Tests::need))]
+fn child_test(l: &Links, i: usize, k: usize) -> Result<(), ValidationError>
     requires { k < slot_count }
-    ensures { result ≡ slot_child (marked live k) p i }
+    ensures { result ≡ slot_child (marked l.now.live k) (number_in l.now.parents k) i }
 {
-    if !children::has_child(live, k) {
+    if !children::has_child(l.live, k) {
         return Err(ValidationError::InactiveChild);
     }
-    if p as usize != i {
+    if l.parents[k] as usize != i {
         return Err(ValidationError::ParentChildLinksCorrupted);
     }
     Ok(())
@@ -57,15 +61,12 @@ fn has_mark_above(m: u64) -> bool
 }
 
 // The marks m of the slot i: those of slots from mark to mark, and then the rest in one test.
-fn children_test(parents: &[u8; MAX_HANDLES], live: u64, i: usize, m: u64) -> Result<(), ValidationError>
-    ensures { result ≡ first_below (child_test slot_count (marked live) (number_in parents.now) i m) mark_count }
+fn children_test(l: &Links, i: usize, m: u64) -> Result<(), ValidationError>
+    ensures { result ≡ first_below (child_test slot_count (marked l.now.live) (number_in l.now.parents) i m) mark_count }
 {
     let mut k = children::next(m, 0);
     while k < MAX_HANDLES {
-        let v = child_test(live, i, k, parents[k]);
-        let Ok(()) = v else {
-            return v;
-        };
+        child_test(l, i, k)?;
         k = children::next(m, k + 1);
     }
     if has_mark_above(m) {
@@ -75,56 +76,35 @@ fn children_test(parents: &[u8; MAX_HANDLES], live: u64, i: usize, m: u64) -> Re
 }
 
 // The links of the slot i.
-fn links_test(
-    children: &[u64; MAX_HANDLES],
-    parents: &[u8; MAX_HANDLES],
-    live: u64,
-    i: usize,
-) -> Result<(), ValidationError>
+#[tactic(auto, unfolding(verdict::specs::Tests::links_test, verdict::specs::Tests::first))]
+fn links_test(l: &Links, i: usize) -> Result<(), ValidationError>
     requires { i < slot_count }
-    ensures { result ≡ links_on children.now parents.now live i }
+    ensures { result ≡ links_on l.now.children l.now.parents l.now.live i }
 {
-    let v = parent_test(children, live, i, parents[i]);
-    let Ok(()) = v else {
-        return v;
-    };
-    children_test(parents, live, i, children[i])
+    parent_test(l, i)?;
+    children_test(l, i, l.children[i])
 }
 
 // An active context, in the slot i.
-fn active_test(
-    c: Context,
-    init: u8,
-    children: &[u64; MAX_HANDLES],
-    parents: &[u8; MAX_HANDLES],
-    live: u64,
-    i: usize,
-) -> Result<(), ValidationError>
+#[tactic(auto, unfolding(verdict::specs::Tests::state_of, verdict::specs::Tests::first, verdict::specs::Tests::need))]
+fn active_test(c: Context, init: u8, l: &Links, i: usize) -> Result<(), ValidationError>
     requires { i < slot_count }
-    ensures { result ≡ state_of ContextState.Active slot_count init c (links_on children.now parents.now live i) }
+    ensures { result ≡ state_of ContextState.Active slot_count init c (links_on l.now.children l.now.parents l.now.live i) }
 {
     let k = c.context_type;
     if context::is_normal(k) & !u8bool::get(init) {
         return Err(ValidationError::DpeNotMarkedInitialized);
     }
-    links_test(children, parents, live, i)
+    links_test(l, i)
 }
 
 // A retired context, in the slot i.
-fn retired_test(
-    c: Context,
-    children: &[u64; MAX_HANDLES],
-    parents: &[u8; MAX_HANDLES],
-    live: u64,
-    i: usize,
-) -> Result<(), ValidationError>
+#[tactic(auto, unfolding(verdict::specs::Tests::state_of, verdict::specs::Tests::first, verdict::specs::Tests::need))]
+fn retired_test(c: Context, l: &Links, i: usize) -> Result<(), ValidationError>
     requires { i < slot_count }
-    ensures { result ≡ state_of ContextState.Retired slot_count 0 c (links_on children.now parents.now live i) }
+    ensures { result ≡ state_of ContextState.Retired slot_count 0 c (links_on l.now.children l.now.parents l.now.live i) }
 {
-    let v = links_test(children, parents, live, i);
-    let Ok(()) = v else {
-        return v;
-    };
+    links_test(l, i)?;
     if children::count(c.children) == 0 {
         return Err(ValidationError::DanglingRetiredContext);
     }
@@ -132,46 +112,33 @@ fn retired_test(
 }
 
 // The context of the slot i, by its state.
-fn state_test(
-    c: Context,
-    init: u8,
-    children: &[u64; MAX_HANDLES],
-    parents: &[u8; MAX_HANDLES],
-    live: u64,
-    i: usize,
-) -> Result<(), ValidationError>
+#[tactic(auto, unfolding(verdict::specs::Tests::state_of))]
+fn state_test(c: Context, init: u8, l: &Links, i: usize) -> Result<(), ValidationError>
     requires { i < slot_count }
-    ensures { result ≡ state_of c.state slot_count init c (links_on children.now parents.now live i) }
+    ensures { result ≡ state_of c.state slot_count init c (links_on l.now.children l.now.parents l.now.live i) }
 {
     let s = c.state;
     match s {
         ContextState::Inactive => validation_fields::inactive_test(c),
-        ContextState::Active => active_test(c, init, children, parents, live, i),
-        ContextState::Retired => retired_test(c, children, parents, live, i),
+        ContextState::Active => active_test(c, init, l, i),
+        ContextState::Retired => retired_test(c, l, i),
     }
 }
 
 // The context of the slot i: support, then by its state, then its locality.
+#[tactic(auto, unfolding(verdict::specs::Tests::context_of, verdict::specs::Tests::first, verdict::specs::Tests::need))]
 pub fn context_test(
     c: Context,
     word: u32,
     init: u8,
-    children: &[u64; MAX_HANDLES],
-    parents: &[u8; MAX_HANDLES],
-    live: u64,
+    l: &Links,
     i: usize,
 ) -> Result<(), ValidationError>
     requires { i < slot_count }
-    ensures { result ≡ context_of slot_count word init c (links_on children.now parents.now live i) }
+    ensures { result ≡ context_of slot_count word init c (links_on l.now.children l.now.parents l.now.live i) }
 {
-    let v = validation_fields::support_test(c, word);
-    let Ok(()) = v else {
-        return v;
-    };
-    let w = state_test(c, init, children, parents, live, i);
-    let Ok(()) = w else {
-        return w;
-    };
+    validation_fields::support_test(c, word)?;
+    state_test(c, init, l, i)?;
     let d = c.tci;
     if c.locality != d.locality {
         return Err(ValidationError::LocalityMismatch);
@@ -180,20 +147,12 @@ pub fn context_test(
 }
 
 // Each slot of the table, upward.
-pub fn slots_test(
-    t: State,
-    children: &[u64; MAX_HANDLES],
-    parents: &[u8; MAX_HANDLES],
-    live: u64,
-) -> Result<(), ValidationError>
-    ensures { result ≡ first_below (slot_in (header_of t) (slot_of t.contexts) children.now parents.now live) slot_count }
+#[tactic(auto, using(verdict::proofs::Steps::below_none, verdict::proofs::Steps::below_more))]
+pub fn slots_test(t: State, l: &Links) -> Result<(), ValidationError>
+    ensures { result ≡ first_below (slot_in (header_of t) (slot_of t.contexts) l.now.children l.now.parents l.now.live) slot_count }
 {
     for i in 0..MAX_HANDLES {
-        let c = t.contexts[i];
-        let v = context_test(c, t.support, t.has_initialized, children, parents, live, i);
-        let Ok(()) = v else {
-            return v;
-        };
+        context_test(t.contexts[i], t.support, t.has_initialized, l, i)?;
     }
     Ok(())
 }

@@ -5,7 +5,7 @@ use Rattle.validation_slots.proofs.Children.{Turn}
 use Rattle.validation_slots.proofs.children_test.Given as goal
 
 abbrev pub invariant-loop-k : goal.invariant-loop-k
-invariant-loop-k l = Turn slot_count (marked l.live) (number_in l.parents) l.i l.m l.k
+invariant-loop-k v = Turn slot_count (marked v.l.live) (number_in v.l.parents) v.i v.m v.k
 
 abbrev pub decreases-loop-k : goal.decreases-loop-k
-decreases-loop-k l = slot_count - l.k
+decreases-loop-k v = slot_count - v.k
