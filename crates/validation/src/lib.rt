@@ -9,6 +9,7 @@ use table::state;
 use table::state::State;
 
 // The verdict on a table: yes, or the first test that fails.
+#[tactic(auto, using(validation_slots::proofs::Agree::slots_by, validation_localities::proofs::Agree::places_by, validation_trees::proofs::Agree::forest_by), unfolding(verdict::specs::Tests::verdict, verdict::specs::Tests::first, verdict::specs::Tests::need))]
 pub fn validate_dpe(t: State) -> Result<(), ValidationError>
     ensures { result ≡ verdict_of t }
 {
@@ -19,17 +20,8 @@ pub fn validate_dpe(t: State) -> Result<(), ValidationError>
         return Err(ValidationError::VersionMismatch);
     }
     let l = links::links_of(t);
-    let children = l.children;
-    let parents = l.parents;
-    let v = validation_slots::slots_test(t, &children, &parents, l.live);
-    let Ok(()) = v else {
-        return v;
-    };
+    validation_slots::slots_test(t, &l)?;
     let p = validation_localities::places_of(t);
-    let places = p.localities;
-    let w = validation_localities::localities_test(&places, p.defaults, p.others);
-    let Ok(()) = w else {
-        return w;
-    };
-    validation_trees::trees_test(&children, &parents, l.live, l.simulations)
+    validation_localities::localities_test(&p)?;
+    validation_trees::trees_test(&l)
 }
