@@ -27,7 +27,7 @@ fn doomed<T: Slots>(t: &T, slot: usize) -> Result<u64, DpeErrorCode>
 }
 
 // Destroys the context of a slot.
-pub fn destroy_at<T: SlotsMut>(t: &mut T, slot: usize) -> Result<(), DpeErrorCode>
+pub fn destroy_slot_on<T: SlotsMut>(t: &mut T, slot: usize) -> Result<(), DpeErrorCode>
     requires { T.Reads t.old }
     ensures { Ends T.state T.Reads t.old t.new result (destroy_slot_of (T.state t.old) slot) }
 {
@@ -37,7 +37,7 @@ pub fn destroy_at<T: SlotsMut>(t: &mut T, slot: usize) -> Result<(), DpeErrorCod
 }
 
 // Destroys the active context of a locality that has a handle.
-pub fn destroy<T: SlotsMut>(
+pub fn destroy_on<T: SlotsMut>(
     t: &mut T,
     handle: [u8; handle::SIZE],
     locality: u32,
@@ -46,7 +46,7 @@ pub fn destroy<T: SlotsMut>(
     ensures { Ends T.state T.Reads t.old t.new result (destroy_of (T.state t.old) handle locality) }
 {
     let slot = lookup::get_active_context_pos(t, handle, locality)?;
-    destroy_at(t, slot)
+    destroy_slot_on(t, slot)
 }
 
 // The same by value, of a slot and by handle: the table in, and back.
@@ -54,7 +54,7 @@ pub fn destroy_slot(t: State, slot: usize) -> Outcome<()>
     ensures { result ≡ destroy_slot_of t slot }
 {
     let mut state = t;
-    let answer = destroy_at(&mut state, slot);
+    let answer = destroy_slot_on(&mut state, slot);
     Outcome { answer, state }
 }
 
@@ -62,6 +62,6 @@ pub fn destroy_context(t: State, handle: [u8; handle::SIZE], locality: u32) -> O
     ensures { result ≡ destroy_of t handle locality }
 {
     let mut state = t;
-    let answer = destroy(&mut state, handle, locality);
+    let answer = destroy_on(&mut state, handle, locality);
     Outcome { answer, state }
 }

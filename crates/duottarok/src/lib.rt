@@ -49,7 +49,7 @@ fn initialized(
 {
     state::readable(image)?;
     let table: &mut Image = image.first_chunk_mut().unwrap();
-    initialize_context::initialize(table, flags, locality, candidates)
+    initialize_context::initialize_on(table, flags, locality, candidates)
 }
 
 // Initialises the default context, or a simulation context with a candidate for its handle.
@@ -79,7 +79,7 @@ fn rotated(
 {
     state::readable(image)?;
     let table: &mut Image = image.first_chunk_mut().unwrap();
-    rotate_context::rotate(table, handle, locality, flags, candidates)
+    rotate_context::rotate_on(table, handle, locality, flags, candidates)
 }
 
 // Gives the context with a handle in a locality a new handle: the default one, or a candidate.
@@ -108,7 +108,7 @@ fn destroyed(
 {
     state::readable(image)?;
     let table: &mut Image = image.first_chunk_mut().unwrap();
-    destroy_context::destroy(table, handle, locality)
+    destroy_context::destroy_on(table, handle, locality)
 }
 
 // Destroys the context with a handle in a locality, with all below it and the retired run above it.

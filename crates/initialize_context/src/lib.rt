@@ -86,7 +86,7 @@ fn initialize_simulation<T: SlotsMut>(
 }
 
 // The lowest inactive slot becomes the default context, or a simulation context.
-pub fn initialize<T: SlotsMut>(
+pub fn initialize_on<T: SlotsMut>(
     t: &mut T,
     flags: u32,
     locality: u32,
@@ -118,6 +118,6 @@ pub fn initialize_context(
     ensures { result ≡ initialized_of t flags locality candidates.now }
 {
     let mut state = t;
-    let answer = initialize(&mut state, flags, locality, candidates);
+    let answer = initialize_on(&mut state, flags, locality, candidates);
     Outcome { answer, state }
 }

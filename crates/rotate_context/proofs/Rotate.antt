@@ -151,14 +151,14 @@ module _ (t : State) (l flags i : ℕ) (b : List ℕ) where
   -- where one is given, the slot has it; else nothing changes
   pub told_handle : (h : List ℕ) → Ok h ≡ (rotated_at t l flags b (Ok i)).answer → rotated_at t l flags b (Ok i) ≡ rotated_to t i h
   told_handle h p = elim (two (marked flags rotate_default_bit)) [
-    | inl d ↦ rw d (to_default_told (occupied slot_count (slot_of t.contexts) l i) h (rw d at sym p))
-    | inr d ↦ rw d (to_chosen_told (chosen_in slot_count (slot_of t.contexts) b) h (rw d at sym p))
+    | inl d ↦ let q = rw d at p in rw d (to_default_told (occupied slot_count (slot_of t.contexts) l i) h (sym q))
+    | inr d ↦ let q = rw d at p in rw d (to_chosen_told (chosen_in slot_count (slot_of t.contexts) b) h (sym q))
   ]
 
   pub kept_handle : (e : DpeErrorCode) → Err e ≡ (rotated_at t l flags b (Ok i)).answer → rotated_at t l flags b (Ok i) ≡ refused_of t e
   kept_handle e p = elim (two (marked flags rotate_default_bit)) [
-    | inl d ↦ rw d (to_default_kept (occupied slot_count (slot_of t.contexts) l i) e (rw d at sym p))
-    | inr d ↦ rw d (to_chosen_kept (chosen_in slot_count (slot_of t.contexts) b) e (rw d at sym p))
+    | inl d ↦ let q = rw d at p in rw d (to_default_kept (occupied slot_count (slot_of t.contexts) l i) e (sym q))
+    | inr d ↦ let q = rw d at p in rw d (to_chosen_kept (chosen_in slot_count (slot_of t.contexts) b) e (sym q))
   ]
 
 -- ---- what an answer tells

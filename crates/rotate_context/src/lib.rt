@@ -56,7 +56,7 @@ fn new_handle<T: Slots>(
 }
 
 // The context with the handle in the locality gets a new handle: the default one, or a candidate.
-pub fn rotate<T: SlotsMut>(
+pub fn rotate_on<T: SlotsMut>(
     t: &mut T,
     handle: [u8; handle::SIZE],
     locality: u32,
@@ -70,9 +70,9 @@ pub fn rotate<T: SlotsMut>(
         return Err(DpeErrorCode::InvalidCommand);
     }
     let i = lookup::get_active_context_pos(t, handle, locality)?;
-    let new = new_handle(t, i, locality, flags, candidates)?;
-    t.put_handle(i, new);
-    Ok(new)
+    let fresh = new_handle(t, i, locality, flags, candidates)?;
+    t.put_handle(i, fresh);
+    Ok(fresh)
 }
 
 // The same by value: the table in, and back.
@@ -86,6 +86,6 @@ pub fn rotate_context(
     ensures { result ≡ rotated_of t handle locality flags candidates.now }
 {
     let mut state = t;
-    let answer = rotate(&mut state, handle, locality, flags, candidates);
+    let answer = rotate_on(&mut state, handle, locality, flags, candidates);
     Outcome { answer, state }
 }
