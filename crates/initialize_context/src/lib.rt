@@ -101,7 +101,7 @@ pub fn initialize_on<T: SlotsMut>(
     if both_or_neither(flags) {
         return Err(DpeErrorCode::InvalidArgument);
     }
-    let i = lookup::get_next_inactive_context_pos(t)?;
+    let i = lookup::find::get_next_inactive_context_pos(t)?;
     if flags::has_bit(flags, flags::INIT_DEFAULT_BIT) {
         return initialize_default(t, i, locality);
     }
