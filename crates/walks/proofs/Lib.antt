@@ -1,4 +1,5 @@
 -- Laws that belong to no one function; callers cite them.
 pub mod Down
+pub mod Rest
 pub mod Returns
 pub mod Summary

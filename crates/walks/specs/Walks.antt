@@ -1,5 +1,5 @@
 -- The descendants of a slot, as the calls answer them. The walk itself stands in forest/specs. Assumes nothing.
-use Rattle.std.specs.Prelude.{Bool, cond, ℕ, ltb, Result, Ok, Err}
+use Rattle.std.specs.Prelude.{Bool, cond, ℕ, ltb, Result, Err}
 use Rattle.error.specs.declared.DpeErrorCode.{DpeErrorCode}
 use Rattle.error.specs.declared.DpeErrorCode.TheVariants.{InternalError, InvalidHandle}
 use Rattle.error.specs.declared.InternalErrorCode.TheVariants.{ContextIndexOob}
@@ -15,8 +15,3 @@ down_from n live kids slot = told_of InvalidHandle (walk_down n live kids n 0 sl
 -- the descendants of a slot
 unfoldable pub descendants_in : ℕ → (ℕ → Context) → ℕ → Result ℕ DpeErrorCode
 descendants_in n s slot = cond (ltb slot n) (down_from n (live_at s) (kids_at s) slot) (Err (InternalError ContextIndexOob))
-
--- the refusal of an answer; marks have none, and are not asked
-abbrev pub why_of : Result ℕ DpeErrorCode → DpeErrorCode
-why_of (Ok m) = InvalidHandle
-why_of (Err e) = e

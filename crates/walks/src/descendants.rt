@@ -1,61 +1,63 @@
-// All that is below a slot. `get_descendants` of state.rs.
+// All that is below a slot, read slot by slot. `get_descendants` of state.rs.
 ghost use Rattle.std.specs.Prelude.{◌≡◌, ◌<◌};
 ghost use Rattle.error.specs.declared.DpeErrorCode.TheVariants.{InvalidHandle};
-ghost use Rattle.children.specs.Marks.{slot_count, marked};
+ghost use Rattle.children.specs.Marks.{slot_count};
 ghost use Rattle.context.specs.Context.{slot_of};
 ghost use Rattle.forest.specs.Walk.{walk_down};
-ghost use Rattle.links.specs.Summary.{number_in};
+ghost use Rattle.links.specs.Summary.{live_at, kids_at};
 ghost use Rattle.forest.specs.Told.{told_of};
 ghost use Rattle.walks.specs.Walks.{descendants_in};
 
 use children::MAX_HANDLES;
 use error::{AddedErrorCode, DpeErrorCode, InternalErrorCode};
-use table::state::State;
+use slots::Slots;
 
-// The stored marks of a slot, joined with the descendants of each child. `path` marks the slots on
-// the way down to it; `depth` is how many more may come.
-pub fn descend(
-    children: &[u64; MAX_HANDLES],
-    live: u64,
-    path: u64,
-    slot: usize,
-    depth: usize,
-) -> Result<u64, DpeErrorCode>
+// The stored marks of a slot, joined with the descendants of each child. `path` marks the slots on the way down to it; `depth` is how many more may come.
+// The last child of a slot takes its place, so that only a child with another after it is a call.
+pub fn descend<T: Slots>(t: &T, path: u64, slot: usize, depth: usize) -> Result<u64, DpeErrorCode>
     requires { slot < slot_count }
-    ensures { result ≡ told_of InvalidHandle (walk_down slot_count (marked live) (number_in children.now) depth path slot) }
+    ensures { let s = slot_of (T.state t.now).contexts in result ≡ told_of InvalidHandle (walk_down slot_count (live_at s) (kids_at s) depth path slot) }
 {
-    if depth == 0 {
-        return Err(DpeErrorCode::Added(AddedErrorCode::WalkLoops));
-    }
-    if !children::has_child(live, slot) {
-        return Err(DpeErrorCode::InvalidHandle);
-    }
-    let down = children::with(path, slot);
-    let kids = children[slot];
-    let mut found = kids;
-    let mut k = children::next(kids, 0);
-    while k < MAX_HANDLES {
+    let mut found = children::empty();
+    let mut down = path;
+    let mut at = slot;
+    let mut left = depth;
+    while left != 0 {
+        if context::is_inactive(t.state_at(at)) {
+            return Err(DpeErrorCode::InvalidHandle);
+        }
+        down = children::with(down, at);
+        left -= 1;
+        let kids = t.children_at(at);
+        found = children::add_children(found, kids);
+        let mut k = children::next(kids, 0);
+        if k >= MAX_HANDLES {
+            return Ok(found);
+        }
+        let mut after = children::next(kids, k + 1);
+        while after < MAX_HANDLES {
+            if children::has_child(down, k) {
+                return Err(DpeErrorCode::Added(AddedErrorCode::WalkLoops));
+            }
+            let m = descend(t, down, k, left)?;
+            found = children::add_children(found, m);
+            k = after;
+            after = children::next(kids, k + 1);
+        }
         if children::has_child(down, k) {
             return Err(DpeErrorCode::Added(AddedErrorCode::WalkLoops));
         }
-        let w = descend(children, live, down, k, depth - 1);
-        let Ok(m) = w else {
-            return w;
-        };
-        found = children::add_children(found, m);
-        k = children::next(kids, k + 1);
+        at = k;
     }
-    Ok(found)
+    Err(DpeErrorCode::Added(AddedErrorCode::WalkLoops))
 }
 
 // The descendants of a slot, as marks.
-pub fn get_descendants(t: State, slot: usize) -> Result<u64, DpeErrorCode>
-    ensures { result ≡ descendants_in slot_count (slot_of t.contexts) slot }
+pub fn get_descendants<T: Slots>(t: &T, slot: usize) -> Result<u64, DpeErrorCode>
+    ensures { result ≡ descendants_in slot_count (slot_of (T.state t.now).contexts) slot }
 {
     if slot >= MAX_HANDLES {
         return Err(DpeErrorCode::InternalError(InternalErrorCode::ContextIndexOob));
     }
-    let l = links::links_of(t);
-    let children = l.children;
-    descend(&children, l.live, children::empty(), slot, MAX_HANDLES)
+    descend(t, children::empty(), slot, MAX_HANDLES)
 }

@@ -1,68 +1,84 @@
--- `walks::descendants::descend` meets its contract. The loop's invariant: the children below k are done, and k is a child or the end. The measure
--- of the calls is the depth. Assumes nothing.
-use mathlib.Core.Path.{◌≡◌, refl, sym, ap, ◌∙◌}
-use Prim.Native.Nat.{◌-◌, ◌+◌}
+-- `walks::descendants::descend` meets its contract. Both loops keep that the marks found, with what is left to walk, are the whole walk's answer. The measure of
+-- the calls is the depth. Assumes nothing.
+use mathlib.Core.Path.{sym, ap, ◌∙◌}
+use Prim.Native.Nat.{◌<◌}
 use native.Mathlib.Omega.{arith}
 use Rattle.error.specs.declared.DpeErrorCode.TheVariants.{InvalidHandle}
-use Rattle.children.specs.Marks.{slot_count, marked}
-use Rattle.forest.specs.Walk.{ok, over}
-use Rattle.links.specs.Summary.{number_in}
+use Rattle.error.proofs.Exits.{passed_on}
+use Rattle.children.specs.Marks.{slot_count}
+use Rattle.forest.specs.Walk.{ok, both}
 use Rattle.forest.specs.Told.{told_of}
-use Rattle.walks.proofs.Down.{child, on_path, off_path, turn_on, told-marks, over-joined, over-loops, over_refused, walk_spent, walk_inactive, walk-over}
+use Rattle.walks.proofs.Down.{live_told, on_path, off_path, told-marks, walk_spent, walk_inactive}
+use Rattle.walks.proofs.Rest.{turn_refused, turn_on, turn_last, slot-alone, turn-first}
 use Rattle.children.proofs.Marks.{seen, next-after}
 use Rattle.walks.proofs.descendants.+descend.Goals as goal
 
-pub returns-then-depth-eq0 : goal.returns-then-depth-eq0
+pub returns-then-is_inactive : goal.returns-then-is_inactive
 unfolding told_of
-returns-then-depth-eq0 t c = sym (ap (told_of InvalidHandle) (walk_spent _ _ _ _ _ _ c.if-depth-eq0.true))
+returns-then-is_inactive g t c =
+    let l = c.loop-left in
+    sym (ap (told_of InvalidHandle) (sym l.invariant.2 ∙ ap (both (ok l.found)) (walk_inactive _ _ _ _ _ _ c.loop-left-test.true
+    (live_told c.state_at.ensures c.is_inactive.ensures c.if-is_inactive.true))))
 
-pub returns-then-not-has_child : goal.returns-then-not-has_child
+pub returns-then-k-ge-MAX_HANDLES : goal.returns-then-k-ge-MAX_HANDLES
 unfolding told_of
-returns-then-not-has_child t c =
-    sym (ap (told_of InvalidHandle) (walk_inactive _ _ _ _ _ _ c.if-depth-eq0.false
-    (seen slot_count _ _ c.requires c.has_child.ensures c.if-not-has_child.true)))
+returns-then-k-ge-MAX_HANDLES g t c =
+    let l = c.loop-left in
+    sym (ap (told_of InvalidHandle) (slot-alone slot_count l.left _ _ l.down l.at _ _ l.found _ _ l.invariant.2 c.loop-left-test.true (live_told c.state_at.ensures c.is_inactive.ensures c.if-is_inactive.false)
+    c.with-down.ensures c.children_at-kids.ensures c.add_children-found.ensures c.next-k.ensures c.if-k-ge-MAX_HANDLES.true))
 
-pub loop-k-init : goal.loop-k-init
-unfolding over
-loop-k-init t c = turn_on _ _ slot_count 0 _ _ (omega arith) refl c.next-k.ensures
+pub loop-after-init : goal.loop-after-init
+loop-after-init g t c =
+    let l = c.loop-left in
+    let k : c.next-k.result < slot_count = let h = c.if-k-ge-MAX_HANDLES.false in omega arith in (
+      k,
+      turn-first slot_count l.left _ _ l.down l.at _ _ l.found _ _ l.invariant.2 c.loop-left-test.true (live_told c.state_at.ensures c.is_inactive.ensures c.if-is_inactive.false)
+          c.with-down.ensures c.children_at-kids.ensures c.add_children-found.ensures c.next-k.ensures _ k c.next-after.ensures,
+    )
 
 pub returns-then-has_child : goal.returns-then-has_child
 unfolding told_of
-returns-then-has_child t c =
-    let lt = c.loop-k-test.true in
-    sym (ap (told_of InvalidHandle) ((walk-over slot_count c.args.depth _ _ _ _ c.with-down.result c.with-down.ensures c.if-depth-eq0.false
-    (seen slot_count _ _ c.requires c.has_child.ensures c.if-not-has_child.false)) ∙ over-loops _ _ c.loop-k.k slot_count c.loop-k.found lt c.loop-k.invariant.1 (c.loop-k.invariant.2 lt)
-    (on_path _ _ _ _ _ _ (seen slot_count _ _ lt c.has_child-in-loop-k.ensures c.if-has_child.true))))
+returns-then-has_child g t c =
+    let i = c.loop-after.invariant in
+    sym (turn_refused InvalidHandle i.1 (ap (told_of InvalidHandle) (on_path _ _ _ _ _ _ (seen slot_count _ _ i.0 c.has_child.ensures c.if-has_child.true))))
 
-pub returns-in_default : goal.returns-in_default
-returns-in_default t c =
-    let lt = c.loop-k-test.true in
-    c.in_default.is
-    ∙ sym (ap (told_of InvalidHandle) ((walk-over slot_count c.args.depth _ _ _ _ c.with-down.result c.with-down.ensures c.if-depth-eq0.false
-    (seen slot_count _ _ c.requires c.has_child.ensures c.if-not-has_child.false))) ∙ over_refused _ _ InvalidHandle c.in_default.field-0 c.loop-k.k slot_count c.loop-k.found lt c.loop-k.invariant.1 (c.loop-k.invariant.2 lt)
-    (ap (told_of InvalidHandle) (off_path _ _ _ _ _ _ (seen slot_count _ _ lt c.has_child-in-loop-k.ensures c.if-has_child.false))
-    ∙ sym c.descend-w.ensures ∙ c.in_default.is))
+pub returns-in_err-m : goal.returns-in_err-m
+returns-in_err-m g t c =
+    let i = c.loop-after.invariant in
+    passed_on _ c.from_residual.ensures.1
+    ∙ sym (turn_refused InvalidHandle i.1 (ap (told_of InvalidHandle) (off_path _ _ _ _ _ _ (seen slot_count _ _ i.0 c.has_child.ensures c.if-has_child.false)) ∙ sym c.in_err-m.ensures))
 
-pub loop-k-smaller : goal.loop-k-smaller
-loop-k-smaller t c =
-    let lt = c.loop-k-test.true in
-    let h = next-after _ _ _ c.next-k-in-loop-k.ensures in
+pub loop-after-smaller : goal.loop-after-smaller
+loop-after-smaller g t c =
+    let h = next-after _ _ _ c.loop-after.invariant.1.next in
+    let z = c.loop-after-test.true in
     omega arith
 
-pub loop-k-preserved : goal.loop-k-preserved
-loop-k-preserved t c =
-    let lt = c.loop-k-test.true in
-    let off = off_path _ _ _ _ _ _ (seen slot_count _ _ lt c.has_child-in-loop-k.ensures c.if-has_child.false) in
-    turn_on _ _ slot_count (c.loop-k.k + 1) _ _ (omega arith)
-    (over-joined _ _ c.loop-k.k c.loop-k.found _ c.loop-k.invariant.1 (c.loop-k.invariant.2 lt)
-    (off ∙ told-marks InvalidHandle _ _ (sym c.descend-w.ensures ∙ c.in-Marks.is)) ∙ ap ok (sym c.add_children-found.ensures))
-    c.next-k-in-loop-k.ensures
+pub loop-after-preserved : goal.loop-after-preserved
+loop-after-preserved g t c =
+    let i = c.loop-after.invariant in
+    let off = off_path _ _ _ _ _ _ (seen slot_count _ _ i.0 c.has_child.ensures c.if-has_child.false) in (
+      c.loop-after-test.true,
+      turn_on i.1 (off ∙ told-marks InvalidHandle _ _ (sym c.in_ok-m.ensures)) c.add_children-found-in-loop-after.ensures c.loop-after-test.true c.next-after-in-loop-after.ensures,
+    )
+
+pub returns-then-has_child-2 : goal.returns-then-has_child-2
+unfolding told_of
+returns-then-has_child-2 g t c =
+    let i = c.loop-after.invariant in
+    sym (ap (told_of InvalidHandle) (sym (turn_last i.1 c.loop-after-test.false)
+    ∙ ap (both (ok c.loop-after.found)) (on_path _ _ _ _ _ _ (seen slot_count _ _ i.0 c.has_child-in-loop-left.ensures c.if-has_child-2.true))))
+
+pub loop-left-preserved : goal.loop-left-preserved
+loop-left-preserved g t c =
+    let i = c.loop-after.invariant in
+    let h = c.loop-left.invariant.0 in (
+      omega arith,
+      i.0,
+      sym (ap (both (ok c.loop-after.found)) (off_path _ _ _ _ _ _ (seen slot_count _ _ i.0 c.has_child-in-loop-left.ensures c.if-has_child-2.false)))
+          ∙ turn_last i.1 c.loop-after-test.false,
+    )
 
 pub returns : goal.returns
 unfolding told_of
-returns t c =
-    let a = c.args in
-    let e : slot_count ≡ c.loop-k.k = let q = c.loop-k.invariant.0 in omega arith in
-    sym (ap (told_of InvalidHandle) ((walk-over slot_count c.args.depth _ _ _ _ c.with-down.result c.with-down.ensures c.if-depth-eq0.false
-    (seen slot_count _ _ c.requires c.has_child.ensures c.if-not-has_child.false))
-    ∙ ap (over (child slot_count (marked a.live) (number_in a.children.now) (a.depth - 1) c.with-down.result) (number_in a.children.now a.slot)) e ∙ c.loop-k.invariant.1))
+returns g t c = let l = c.loop-left in sym (ap (told_of InvalidHandle) (sym l.invariant.2 ∙ ap (both (ok l.found)) (walk_spent _ _ _ _ _ _ c.loop-left-test.false)))

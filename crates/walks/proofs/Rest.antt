@@ -12,7 +12,7 @@ use Rattle.children.specs.Below.{lowest_from}
 use Rattle.children.specs.Marks.{marked, with, joined, next_below}
 use Rattle.children.proofs.Below.{low_ge, low-le, low_bare}
 use Rattle.children.proofs.Cases.{two}
-use Rattle.children.proofs.Marks.{joined_assoc}
+use Rattle.children.proofs.Marks.{joined_assoc, next-marked}
 use Rattle.forest.specs.Walk.{Answer, loops, bad, ok, both, over, walk_down}
 use Rattle.forest.specs.Told.{told_of}
 use Rattle.walks.proofs.Down.{child, walk-over}
@@ -42,6 +42,13 @@ both_assoc (ok x) (ok y) (ok z) = ap ok (joined_assoc x y z)
 pub begins : (f : ℕ) (a : Answer) → f ≡ 0 → both (ok f) a ≡ a
 begins f a e = ap (λ (x : ℕ). both (ok x) a) e ∙ both_none_l a
 
+-- a child that is refused ends the walk
+refused_on : (e r : DpeErrorCode) (f : ℕ) (a b : Answer) → told_of e a ≡ Err r → told_of e (both (both (ok f) a) b) ≡ Err r
+unfolding told_of
+refused_on e r f loops b q = q
+refused_on e r f bad b q = q
+refused_on e r f (ok w) b q = absurd (let z : ◌≡◌ {A = ℕ} 0 1 = cc in omega arith)
+
 -- ---- the rest
 
 -- the answers for those of the g numbers from k on that are marked
@@ -69,7 +76,7 @@ module _ (rec : ℕ → Answer) (m : ℕ) where
       ap (λ (x : ℕ). rest rec m x k) e ∙ rw (q k (omega arith) (omega arith)) (rest_skip h g (suc k) (λ j l u. q j (omega arith) (omega arith))) ∙ ap (rest rec m g) f
 
   -- the rest from k on is the rest from the next one marked on
-  pub rest-next : (n k r : ℕ) → k ≤ n → r ≡ next_below n m k → rest rec m (n - k) k ≡ rest rec m (n - r) r
+  rest-next : (n k r : ℕ) → k ≤ n → r ≡ next_below n m k → rest rec m (n - k) k ≡ rest rec m (n - r) r
   rest-next n k r h q =
       let low = lowest_from (marked m) (n - k) k in
       let ge = low_ge (marked m) (n - k) k in
@@ -81,7 +88,7 @@ module _ (rec : ℕ → Answer) (m : ℕ) where
       ∙ ap (rest rec m (n - low)) f ∙ ap (λ (x : ℕ). rest rec m (n - x) x) (sym q)
 
   -- one child more, and the rest after it
-  pub rest_on : (n k r f : ℕ) → k < n → marked m k ≡ true → r ≡ next_below n m (k + 1)
+  rest_on : (n k r f : ℕ) → k < n → marked m k ≡ true → r ≡ next_below n m (k + 1)
       → both (ok f) (rest rec m (n - k) k) ≡ both (both (ok f) (rec k)) (rest rec m (n - r) r)
   unfolding rest
   rest_on n k r f h b q =
@@ -95,25 +102,46 @@ module _ (rec : ℕ → Answer) (m : ℕ) where
   unfolding rest
   rest_end n r h = let e : n - r ≡ 0 = omega arith in ap (λ (x : ℕ). rest rec m x r) e
 
-  pub rest_none : (n r f : ℕ) → n ≤ r → both (ok f) (rest rec m (n - r) r) ≡ ok f
+  rest_none : (n r f : ℕ) → n ≤ r → both (ok f) (rest rec m (n - r) r) ≡ ok f
   rest_none n r f h = ap (both (ok f)) (rest_end n r h) ∙ both_none_r (ok f)
 
   -- the last child
-  pub rest_last : (n k r f : ℕ) → k < n → marked m k ≡ true → r ≡ next_below n m (k + 1) → n ≤ r
+  rest_last : (n k r f : ℕ) → k < n → marked m k ≡ true → r ≡ next_below n m (k + 1) → n ≤ r
       → both (ok f) (rest rec m (n - k) k) ≡ both (ok f) (rec k)
   rest_last n k r f h b q l = rest_on n k r f h b q ∙ ap (both (both (ok f) (rec k))) (rest_end n r l) ∙ both_none_r (both (ok f) (rec k))
 
+-- ---- a turn of the loop over the children
+
+-- k is a child and r the next one, and the marks found, with the rest from k on, are worth a
+pub record Turn (rec : ℕ → Answer) (m n k r f : ℕ) (a : Answer) : Type 0 where
+  pub below : k < n
+  pub marks : marked m k ≡ true
+  pub next : r ≡ next_below n m (k + 1)
+  pub worth : both (ok f) (rest rec m (n - k) k) ≡ a
+
 -- a child that is refused ends the walk
-pub refused_on : (e r : DpeErrorCode) (f : ℕ) (a b : Answer) → told_of e a ≡ Err r → told_of e (both (both (ok f) a) b) ≡ Err r
-unfolding told_of
-refused_on e r f loops b q = q
-refused_on e r f bad b q = q
-refused_on e r f (ok w) b q = absurd (let z : ◌≡◌ {A = ℕ} 0 1 = cc in omega arith)
+pub turn_refused : (e : DpeErrorCode) {rec : ℕ → Answer} {m n k r f : ℕ} {a : Answer} {x : DpeErrorCode} → Turn rec m n k r f a → told_of e (rec k) ≡ Err x → told_of e a ≡ Err x
+turn_refused e {rec} {m} {n} {k} {r} {f} {a} {x} t q =
+    ap (told_of e) (sym t.worth ∙ rest_on rec m n k r f t.below t.marks t.next) ∙ refused_on e x f (rec k) _ q
+
+-- the marks of a child are joined, and the rest goes on from the next one
+pub turn_on : {rec : ℕ → Answer} {m n k r f v g s : ℕ} {a : Answer} → Turn rec m n k r f a → rec k ≡ ok v → g ≡ joined f v → r < n → s ≡ next_below n m (r + 1) → Turn rec m n r s g a
+turn_on {rec} {m} {n} {k} {r} {f} {v} {g} {s} t q j h i = record {
+  below = h;
+  marks = next-marked n m (k + 1) r (let o = t.below in omega arith) t.next h;
+  next = i;
+  worth = ap (λ (x : ℕ). both (ok x) (rest rec m (n - r) r)) j ∙ sym (ap (λ (x : Answer). both (both (ok f) x) (rest rec m (n - r) r)) q)
+      ∙ sym (rest_on rec m n k r f t.below t.marks t.next) ∙ t.worth;
+}
+
+-- the last child's answer is all that is left
+pub turn_last : {rec : ℕ → Answer} {m n k r f : ℕ} {a : Answer} → Turn rec m n k r f a → n ≤ r → both (ok f) (rec k) ≡ a
+turn_last {rec} {m} {n} {k} {r} {f} t l = sym (rest_last rec m n k r f t.below t.marks t.next l) ∙ t.worth
 
 -- ---- at a slot
 
 -- the walk at a slot that is live: its marks, and the rest from its first child on
-pub rest_begins : (n d : ℕ) (live : ℕ → Bool) (kids : ℕ → ℕ) (path slot down m f g r : ℕ) → down ≡ with path slot → (d ≡ 0 → ⊥) → live slot ≡ true → m ≡ kids slot
+rest_begins : (n d : ℕ) (live : ℕ → Bool) (kids : ℕ → ℕ) (path slot down m f g r : ℕ) → down ≡ with path slot → (d ≡ 0 → ⊥) → live slot ≡ true → m ≡ kids slot
     → g ≡ joined f m → r ≡ next_below n m 0
     → both (ok f) (walk_down n live kids d path slot) ≡ both (ok g) (rest (child n live kids (d - 1) down) m (n - r) r)
 unfolding over
@@ -125,3 +153,17 @@ rest_begins n d live kids path slot down m f g r p h e q i j =
     ∙ sym (both_assoc (ok f) (ok m) (rest c m n 0))
     ∙ ap (λ (x : ℕ). both (ok x) (rest c m n 0)) (sym i)
     ∙ ap (both (ok g)) (ap (λ (x : ℕ). rest c m x 0) y ∙ rest-next c m n 0 r (omega arith) j)
+
+-- a slot with no child ends the walk, and a first child begins the loop
+module _ (n d : ℕ) (live : ℕ → Bool) (kids : ℕ → ℕ) (path slot down m f g r : ℕ) {a : Answer} (w : both (ok f) (walk_down n live kids d path slot) ≡ a)
+    (h : d ≡ 0 → ⊥) (e : live slot ≡ true) (p : down ≡ with path slot) (q : m ≡ kids slot) (i : g ≡ joined f m) (j : r ≡ next_below n m 0) where
+  pub slot-alone : n ≤ r → a ≡ ok g
+  slot-alone l = sym w ∙ rest_begins n d live kids path slot down m f g r p h e q i j ∙ rest_none (child n live kids (d - 1) down) m n r g l
+
+  pub turn-first : (s : ℕ) → r < n → s ≡ next_below n m (r + 1) → Turn (child n live kids (d - 1) down) m n r s g a
+  turn-first s l k = record {
+    below = l;
+    marks = next-marked n m 0 r (omega arith) j l;
+    next = k;
+    worth = sym (rest_begins n d live kids path slot down m f g r p h e q i j) ∙ w;
+  }
