@@ -1,12 +1,15 @@
 -- How the run above goes on, turn by turn. Assumes nothing.
 use mathlib.Core.Bool.{Bool, true, false}
-use mathlib.Core.Path.{◌≡◌, ap, ◌∙◌}
+use mathlib.Core.Path.{◌≡◌, sym, ap, ◌∙◌}
 use Prim.Native.Nat.{ℕ, suc, ◌-◌, ◌≤◌, ◌<◌}
 use borrow.Author.Tests.{lt-ltb, le-ltb, eq-eqb, ne_eqb}
 use Rattle.children.specs.Marks.{with, count_below}
-use Rattle.context.specs.Context.{no_parent}
+use Rattle.context.specs.declared.Context.{Context}
+use Rattle.context.specs.declared.ContextState.{ContextState}
+use Rattle.context.specs.Context.{no_parent, is_retired}
 use Rattle.forest.specs.Walk.{loops, bad, ok}
 use Rattle.forest.specs.Run.{single_in, climb}
+use Rattle.links.specs.Summary.{retired_at}
 
 module _ (n : ℕ) (passes : ℕ → Bool) (parent : ℕ → ℕ) (d : ℕ) (e : d ≡ suc (d - 1)) (a p : ℕ) where
   pub climb-top : n ≤ p → p ≡ no_parent → climb n passes parent d a p ≡ ok a
@@ -30,6 +33,10 @@ unfolding climb
 climb_spent n passes parent d a p e = rw e
 
 -- ---- a retired slot with one child
+
+-- the state that was read says whether the slot is retired
+pub retired_told : (s : ℕ → Context) {i p : ℕ} {a : ContextState} {r b : Bool} → i ≡ p → a ≡ (s i).state → r ≡ is_retired a → r ≡ b → retired_at s p ≡ b
+retired_told s q e o t = ap (retired_at s) (sym q) ∙ ap is_retired (sym e) ∙ sym o ∙ t
 
 module _ (n : ℕ) (retired : ℕ → Bool) (kids : ℕ → ℕ) (p : ℕ) where
   pub single_yes : retired p ≡ true → count_below n (kids p) ≡ 1 → single_in n retired kids p ≡ true

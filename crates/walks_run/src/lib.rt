@@ -1,24 +1,21 @@
 // The run above a slot: the retired slots with one child each, upward without a break. destroy_context.rs.
-// It runs over the summary of the links, and ends on every table.
+// It reads slot by slot, and ends on every table.
 #![tactic(auto)]
 
 ghost use Rattle.std.specs.Prelude.{◌≡◌};
-ghost use Rattle.children.specs.Marks.{slot_count, marked};
-ghost use Rattle.links.specs.Summary.{number_in};
+ghost use Rattle.children.specs.Marks.{slot_count};
+ghost use Rattle.context.specs.Context.{slot_of};
+ghost use Rattle.links.specs.Summary.{retired_at, parent_at, kids_at};
 ghost use Rattle.walks_run.specs.Run.{run_from};
 
 use children::MAX_HANDLES;
 use context::ROOT_INDEX;
 use error::{AddedErrorCode, DpeErrorCode, InternalErrorCode};
+use slots::Slots;
 
-// The run from the slot p upward, as marks.
-pub fn run_above(
-    children: &[u64; MAX_HANDLES],
-    parents: &[u8; MAX_HANDLES],
-    retired: u64,
-    start: u8,
-) -> Result<u64, DpeErrorCode>
-    ensures { result ≡ run_from slot_count (marked retired) (number_in parents.now) (number_in children.now) start }
+// The run from the slot `start` upward, as marks.
+pub fn run_above<T: Slots>(t: &T, start: u8) -> Result<u64, DpeErrorCode>
+    ensures { let s = slot_of (T.state t.now).contexts in result ≡ run_from slot_count (retired_at s) (parent_at s) (kids_at s) start }
 {
     let mut taken = children::empty();
     let mut p = start;
@@ -28,18 +25,16 @@ pub fn run_above(
             if p == ROOT_INDEX {
                 return Ok(taken);
             }
-            return Err(DpeErrorCode::InternalError(
-                InternalErrorCode::DestroyParentIndexOob,
-            ));
+            return Err(DpeErrorCode::InternalError(InternalErrorCode::DestroyParentIndexOob));
         }
-        if !children::has_child(retired, i) {
+        if !context::is_retired(t.state_at(i)) {
             return Ok(taken);
         }
-        if children::count(children[i]) != 1 {
+        if children::count(t.children_at(i)) != 1 {
             return Ok(taken);
         }
         taken = children::with(taken, i);
-        p = parents[i];
+        p = t.parent_at(i);
     }
     Err(DpeErrorCode::Added(AddedErrorCode::WalkLoops))
 }
