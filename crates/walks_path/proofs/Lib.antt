@@ -1,3 +1,2 @@
 -- Laws that belong to no one function; callers cite them.
 pub mod Steps
-pub mod Summary

@@ -1,26 +1,32 @@
 -- How a path is found and laid out. Assumes nothing.
-use Rattle.std.specs.Prelude.{Result, Ok, Err}
-use mathlib.Core.Bool.{Bool, true, false, cond, ◌&&◌, ◌||◌}
-use mathlib.Core.List.{List}
+use Rattle.std.specs.Prelude.{Ok, Err, reverse}
+use Rattle.std.proofs.lemmas.List.{get_or_append_left, get_or-reverse}
+use mathlib.Core.Bool.{Bool, true, false, cond, not, ◌&&◌, ◌||◌}
+use mathlib.Core.List.{List, ◌++◌}
 use mathlib.Core.Logic.{inl, inr}
-use mathlib.Core.Path.{◌≡◌, refl, sym, ap, ◌∙◌}
+use mathlib.Core.Path.{◌≡◌, sym, ap, ◌∙◌}
 use Prim.Native.Nat.{ℕ, zero, suc, ◌+◌, ◌-◌, ◌≤◌, ◌<◌}
 use native.Mathlib.Decide.{ℕ_discrete, dec_lt}
 use native.Mathlib.Numerals.{add-one}
 use native.Mathlib.Omega.{arith}
-use lib.Dec.{eqb, ltb, leb}
-use lib.ListN.{get_or, set, length-set}
-use lib.Seq.{get_or-set_same, get_or-set_other, ext_get_or}
-use borrow.Author.Tests.{lt-ltb, le-ltb, lt-leb, le-leb, eq-eqb, ne_eqb}
+use lib.Dec.{eqb, ltb}
+use lib.ListN.{length, get_or, set, take, drop, length-set, length-append, length-reverse, length-drop}
+use lib.Seq.{get_or-set_same, get_or-set_other, ext_get_or, get_or-take, get_or-drop, get_or-append_right, length-take-le}
+use borrow.Author.Tests.{lt-ltb, le-ltb, eq-eqb, ne_eqb}
 use Rattle.error.specs.declared.DpeErrorCode.{DpeErrorCode}
 use Rattle.error.specs.declared.DpeErrorCode.TheVariants.{InternalError, InvalidHandle}
 use Rattle.error.specs.declared.InternalErrorCode.TheVariants.{ContextIndexOob, TciNodeCountExceeded}
 use Rattle.children.specs.Below.{list_of}
 use Rattle.children.proofs.Below.{length-list_of, list_of-at, list_of_same}
-use Rattle.children.proofs.Cases.{two, ltb-true, and_right}
-use Rattle.context.specs.Context.{no_parent}
+use Rattle.children.proofs.Cases.{two, ltb-true}
+use Rattle.context.specs.declared.ContextState.{ContextState}
+use Rattle.context.specs.Context.{no_parent, is_inactive, is_live}
 use Rattle.links.specs.Summary.{steps_up}
-use Rattle.walks_path.specs.Path.{parent_of, onward, length_from, slots_of, path_of, Climbs}
+use Rattle.walks_path.specs.Path.{parent_of, onward, length_from, slots_of, laid_of, path_of}
+
+-- the state that was read says whether the slot is live
+pub live_told : {a s : ContextState} {r b : Bool} → a ≡ s → r ≡ is_inactive a → r ≡ b → is_live s ≡ not b
+live_told p q o = ap not (ap is_inactive (sym p) ∙ sym q ∙ o)
 
 module _ (n : ℕ) (live : ℕ → Bool) (parent : ℕ → ℕ) (x : ℕ) where
   -- ---- the parent of a slot
@@ -47,7 +53,7 @@ module _ (n : ℕ) (live : ℕ → Bool) (parent : ℕ → ℕ) (x : ℕ) where
 
   -- ---- the length, turn by turn
 
-  pub length_refused : (g j : ℕ) (e : DpeErrorCode) → parent_of n live parent x ≡ Err e → length_from n live parent g j x ≡ Err e
+  length_refused : (g j : ℕ) (e : DpeErrorCode) → parent_of n live parent x ≡ Err e → length_from n live parent g j x ≡ Err e
   unfolding length_from onward
   length_refused zero j e q = rw q
   length_refused (suc g) j e q = rw q
@@ -61,7 +67,7 @@ module _ (n : ℕ) (live : ℕ → Bool) (parent : ℕ → ℕ) (x : ℕ) where
   unfolding length_from onward
   length_on g j p e q o = ap (λ (y : ℕ). length_from n live parent y j x) e ∙ rw (q, ne_eqb p no_parent o, add-one j)
 
-  pub length_full : (g j p : ℕ) → g ≡ 0 → parent_of n live parent x ≡ Ok p → length_from n live parent g j x ≡ Err (InternalError TciNodeCountExceeded)
+  length_full : (g j p : ℕ) → g ≡ 0 → parent_of n live parent x ≡ Ok p → length_from n live parent g j x ≡ Err (InternalError TciNodeCountExceeded)
   unfolding length_from onward
   length_full g j p e q = ap (λ (y : ℕ). length_from n live parent y j x) e ∙ rw q
 
@@ -76,60 +82,7 @@ module _ (n : ℕ) (live : ℕ → Bool) (parent : ℕ → ℕ) (x : ℕ) where
     ]
   ]
 
--- ---- steps
-
-pub steps_in : (parent : ℕ → ℕ) (j x : ℕ) → steps_up parent j (parent x) ≡ steps_up parent (suc j) x
-unfolding steps_up
-steps_in parent zero x = refl
-steps_in parent (suc j) x = ap parent (steps_in parent j x)
-
-module _ (n : ℕ) (live : ℕ → Bool) (parent : ℕ → ℕ) where
-  record Risen (g j x k : ℕ) : Type 0 where
-    more : j < k
-    few : k ≤ j + g
-    slots : (i : ℕ) → i < k - j → steps_up parent i x < n
-
-  -- the steps before a slot of the path are slots, and so is the slot
-  risen : (g j x k : ℕ) → length_from n live parent g j x ≡ Ok k → Risen g j x k
-  unfolding length_from onward steps_up
-  risen zero j x k e = go (parent_of n live parent x) e
-    where
-      go : (f : Result ℕ DpeErrorCode) → onward f (λ p. Err (InternalError TciNodeCountExceeded)) ≡ Ok k → Risen zero j x k
-      go (Ok p) q = absurd (let z : ◌≡◌ {A = ℕ} 0 1 = cc in omega arith)
-      go (Err r) q = absurd (let z : ◌≡◌ {A = ℕ} 0 1 = cc in omega arith)
-  risen (suc g) j x k e = go (parent_of n live parent x) refl e (λ p q. risen g (suc j) p k q)
-    where
-      next : (p : ℕ) → parent_of n live parent x ≡ Ok p → Risen g (suc j) p k → Risen (suc g) j x k
-      next p o r =
-          let f = parent_from n live parent x p o in
-          record {
-            more = let m = r.more in omega arith;
-            few = let m = r.few in omega arith;
-            slots = λ i h. elim (ℕ_discrete i 0) [
-              | yes z ↦ rw z f.0
-              | no nz ↦
-                  let s : i ≡ suc (i - 1) = omega arith in
-                  rw s (rw (sym f.1, steps_in parent (i - 1) x) at (r.slots (i - 1) (omega arith)))
-            ];
-          }
-
-      last : (p : ℕ) → parent_of n live parent x ≡ Ok p → k ≡ suc j → Risen (suc g) j x k
-      last p o q =
-          let f = parent_from n live parent x p o in
-          record { more = omega arith; few = omega arith; slots = λ i h. let z : i ≡ 0 = omega arith in rw z f.0 }
-
-      go : (f : Result ℕ DpeErrorCode) → parent_of n live parent x ≡ f → onward f (λ p. cond (eqb p no_parent) (Ok (suc j)) (length_from n live parent g (suc j) p)) ≡ Ok k
-          → ((p : ℕ) → length_from n live parent g (suc j) p ≡ Ok k → Risen g (suc j) p k) → Risen (suc g) j x k
-      go (Err r) o q ih = absurd (let z : ◌≡◌ {A = ℕ} 0 1 = cc in omega arith)
-      go (Ok p) o q ih = elim (two (eqb p no_parent)) [
-        | inl b ↦ let z : Ok (suc j) ≡ Ok k = rw b at q in let y : suc j ≡ k = cc in last p o (sym y)
-        | inr b ↦ next p o (ih p (rw b at q))
-      ]
-
-  pub climbs : (x k : ℕ) → length_from n live parent n 0 x ≡ Ok k → Climbs n parent x k
-  climbs x k e = let r = risen n 0 x k e in record { few = let f = r.few in omega arith; slots = λ j h. r.slots j (omega arith) }
-
--- ---- the slots are laid from the last to the first
+-- ---- the slots are met from the last to the first, and turned round
 
 set-list_of : (f : ℕ → ℕ) (n i v : ℕ) → i < n → set (list_of f n) i v ≡ list_of (λ j. cond (eqb j i) v (f j)) n
 set-list_of f n i v h =
@@ -145,83 +98,76 @@ set-list_of f n i v h =
     g : ℕ → ℕ
     g j = cond (eqb j i) v (f j)
 
--- slot i of a path of k slots, of which the last j are laid
-abbrev pub cell : (ℕ → ℕ) → ℕ → ℕ → ℕ → ℕ
-cell up k j i = cond (leb (k - j) i && ltb i k) (up (k - suc i)) 0
+-- the slots met on the way up are the first j, and 0 comes after them
+abbrev pub met : (ℕ → ℕ) → ℕ → ℕ → ℕ
+met up j i = cond (ltb i j) (up i) 0
 
-leb_same : (a b i : ℕ) → (a ≤ i → b ≤ i) → (b ≤ i → a ≤ i) → leb a i ≡ leb b i
-leb_same a b i f g = elim (dec_lt i a) [
-  | yes l ↦ lt-leb a i l ∙ sym (lt-leb b i (elim (dec_lt i b) [ yes m ↦ m | no nm ↦ absurd (let z = g (omega arith) in omega arith) ]))
-  | no nl ↦ le-leb a i (omega arith) ∙ sym (le-leb b i (f (omega arith)))
-]
+-- one slot more is met
+pub met_more : (up : ℕ → ℕ) (n j v : ℕ) (l : List ℕ) → j < n → v ≡ up j → l ≡ list_of (met up j) n → set l j v ≡ list_of (met up (j + 1)) n
+met_more up n j v l h e q =
+    ap (λ (x : List ℕ). set x j v) q ∙ set-list_of (met up j) n j v h
+    ∙ list_of_same _ _ n (λ i w. elim (ℕ_discrete i j) [
+      | yes p ↦ rw (eq-eqb i j p, lt-ltb i (j + 1) (omega arith), p) e
+      | no np ↦ rw (ne_eqb i j np) (ap (λ (b : Bool). cond b (up i) 0) (elim (dec_lt i j) [
+        | yes l ↦ lt-ltb i j l ∙ sym (lt-ltb i (j + 1) (omega arith))
+        | no nl ↦ le-ltb i j (omega arith) ∙ sym (le-ltb i (j + 1) (omega arith))
+      ]))
+    ])
 
-module _ (up : ℕ → ℕ) (n k : ℕ) (few : k ≤ n) where
-  pub laid_more : (j v : ℕ) (l : List ℕ) → j < k → v ≡ up j → l ≡ list_of (cell up k j) n → set l (k - 1 - j) v ≡ list_of (cell up k (j + 1)) n
-  laid_more j v l h e q =
-      ap (λ (x : List ℕ). set x (k - 1 - j) v) q ∙ set-list_of (cell up k j) n (k - 1 - j) v (omega arith)
-      ∙ list_of_same _ _ n (λ i w. elim (ℕ_discrete i (k - 1 - j)) [
-        | yes p ↦
-            let o : k - suc i ≡ j = omega arith in
-            rw (eq-eqb i (k - 1 - j) p, le-leb (k - (j + 1)) i (omega arith), lt-ltb i k (omega arith), o) e
-        | no np ↦
-            rw (ne_eqb i (k - 1 - j) np, leb_same (k - (j + 1)) (k - j) i (λ a. omega arith) (λ a. omega arith))
-      ])
+-- turned round, the slots met are those of the path
+pub turned : (up : ℕ → ℕ) (n k : ℕ) (l m : List ℕ) → k ≤ n → l ≡ list_of (met up k) n → m ≡ reverse (take k l) → m ++ drop k l ≡ slots_of n up k
+unfolding slots_of
+turned up n k l m h q r =
+    ext_get_or 0 _ _ (all ∙ sym (length-list_of f n)) (λ i w.
+    let o : i < n = let a = all in omega arith in
+    elim (dec_lt i k) [
+      | yes b ↦
+          get_or_append_left m (drop k l) 0 i (let a = front in omega arith)
+          ∙ ap (λ (x : List ℕ). get_or x i 0) r
+          ∙ get_or-reverse (take k l) i 0 (let a = taken in omega arith)
+          ∙ ap (λ (x : ℕ). get_or (take k l) x 0) (let a = taken in let z : length (take k l) - 1 - i ≡ k - suc i = omega arith in z)
+          ∙ get_or-take k l (k - suc i) 0 (omega arith)
+          ∙ ap (λ (x : List ℕ). get_or x (k - suc i) 0) q
+          ∙ list_of-at (met up k) n (k - suc i) 0 (omega arith)
+          ∙ rw (lt-ltb (k - suc i) k (omega arith)) (sym (list_of-at f n i 0 o ∙ rw (lt-ltb i k b)))
+      | no nb ↦
+          get_or-append_right m (drop k l) i 0 (let a = front in omega arith)
+          ∙ ap (λ (x : ℕ). get_or (drop k l) (i - x) 0) front
+          ∙ get_or-drop k l (i - k) 0
+          ∙ ap (λ (x : ℕ). get_or l x 0) (let z : k + (i - k) ≡ i = omega arith in z)
+          ∙ ap (λ (x : List ℕ). get_or x i 0) q
+          ∙ list_of-at (met up k) n i 0 o
+          ∙ rw (le-ltb i k (omega arith)) (sym (list_of-at f n i 0 o ∙ rw (le-ltb i k (omega arith))))
+    ])
+  where
+    f : ℕ → ℕ
+    f i = cond (ltb i k) (up (k - suc i)) 0
 
-  pub laid_all : (j : ℕ) (l : List ℕ) → k ≤ j → l ≡ list_of (cell up k j) n → l ≡ slots_of n up (Ok k)
-  unfolding slots_of
-  laid_all j l h q = q ∙ list_of_same _ _ n (λ i w. rw (le-leb (k - j) i (omega arith)))
+    size : length l ≡ n
+    size = ap length q ∙ length-list_of (met up k) n
 
--- nothing is laid yet
-pub laid_none : (up : ℕ → ℕ) (n k : ℕ) → list_of (λ (i : ℕ). 0) n ≡ list_of (cell up k 0) n
-laid_none up n k = list_of_same _ _ n (λ i w. elim (dec_lt i k) [
-  | yes l ↦ rw (lt-leb (k - 0) i (omega arith))
-  | no nl ↦ rw (le-ltb i k (omega arith), and_right (leb (k - 0) i) refl)
-])
+    taken : length (take k l) ≡ k
+    taken = length-take-le k l (let a = size in omega arith)
 
--- ---- a path is what two functions say below n
+    front : length m ≡ k
+    front = ap length r ∙ length-reverse (take k l) ∙ taken
 
-pub path_made : (n : ℕ) (live : ℕ → Bool) (parent : ℕ → ℕ) (slot : ℕ) (f : Result ℕ DpeErrorCode) (slots : List ℕ) → f ≡ length_from n live parent n 0 slot
-    → slots ≡ slots_of n (λ j. steps_up parent j slot) f → record { length = f; slots = slots } ≡ path_of n live parent slot
-unfolding path_of
-path_made n live parent slot f slots e q = rw (q, e)
+    all : length (m ++ drop k l) ≡ n
+    all = length-append m (drop k l) ∙ (let a = front in let b = length-drop k l in let c = size in omega arith)
 
-onward_same : (f : Result ℕ DpeErrorCode) (g h : ℕ → Result ℕ DpeErrorCode) → ((p : ℕ) → f ≡ Ok p → g p ≡ h p) → onward f g ≡ onward f h
-unfolding onward
-onward_same (Ok p) g h s = s p refl
-onward_same (Err e) g h s = refl
+-- ---- the path is a refusal, or as many slots as were found
 
-module _ (n : ℕ) (live live' : ℕ → Bool) (parent parent' : ℕ → ℕ)
-    (same_live : (i : ℕ) → i < n → live i ≡ live' i) (same-parent : (i : ℕ) → i < n → parent i ≡ parent' i) where
-  parent_same : (x : ℕ) → parent_of n live parent x ≡ parent_of n live' parent' x
-  unfolding parent_of
-  parent_same x = elim (two (ltb x n)) [
-    | inl b ↦ let h = ltb-true x n b in rw (b, same_live x h, same-parent x h)
-    | inr b ↦ rw b
-  ]
+-- x is met after j other slots, and there is room for g more
+module _ (n : ℕ) (live : ℕ → Bool) (parent : ℕ → ℕ) (slot g j x : ℕ) (way : length_from n live parent g j x ≡ length_from n live parent n 0 slot) where
+  pub path_refused : (e : DpeErrorCode) → parent_of n live parent x ≡ Err e → path_of n live parent slot ≡ Err e
+  unfolding path_of laid_of
+  path_refused e q = rw (sym way ∙ length_refused n live parent x g j e q)
 
-  length_same : (g j x : ℕ) → length_from n live parent g j x ≡ length_from n live' parent' g j x
-  unfolding length_from
-  length_same zero j x = ap (λ (f : Result ℕ DpeErrorCode). onward f (λ p. Err (InternalError TciNodeCountExceeded))) (parent_same x)
-  length_same (suc g) j x =
-      ap (λ (f : Result ℕ DpeErrorCode). onward f (λ p. cond (eqb p no_parent) (Ok (suc j)) (length_from n live parent g (suc j) p))) (parent_same x)
-      ∙ onward_same (parent_of n live' parent' x) _ _ (λ p e. ap (cond (eqb p no_parent) (Ok (suc j))) (length_same g (suc j) p))
+  pub path_full : (p : ℕ) → g ≡ 0 → parent_of n live parent x ≡ Ok p → path_of n live parent slot ≡ Err (InternalError TciNodeCountExceeded)
+  unfolding path_of laid_of
+  path_full p e q = rw (sym way ∙ length_full n live parent x g j p e q)
 
-  steps_same : (slot k : ℕ) → Climbs n parent slot k → (j : ℕ) → j < k → steps_up parent j slot ≡ steps_up parent' j slot
-  unfolding steps_up
-  steps_same slot k c zero h = refl
-  steps_same slot k c (suc j) h =
-      same-parent (steps_up parent j slot) (c.slots j (omega arith)) ∙ ap parent' (steps_same slot k c j (omega arith))
-
-  slots_same : (slot : ℕ) (f : Result ℕ DpeErrorCode) → f ≡ length_from n live parent n 0 slot
-      → slots_of n (λ j. steps_up parent j slot) f ≡ slots_of n (λ j. steps_up parent' j slot) f
-  unfolding slots_of
-  slots_same slot (Err e) q = refl
-  slots_same slot (Ok k) q = list_of_same _ _ n (λ i w. elim (two (ltb i k)) [
-    | inl b ↦ let h = ltb-true i k b in rw b (steps_same slot k (climbs n live parent slot k (sym q)) (k - suc i) (omega arith))
-    | inr b ↦ rw b
-  ])
-
-  pub path_same : (slot : ℕ) → path_of n live parent slot ≡ path_of n live' parent' slot
-  path_same slot =
-      sym (path_made n live parent slot _ _ refl refl)
-      ∙ path_made n live' parent' slot _ _ (length_same n 0 slot) (slots_same slot _ refl)
+  pub path-laid : (p : ℕ) (l : List ℕ) → g ≡ suc (g - 1) → parent_of n live parent x ≡ Ok p → p ≡ no_parent → l ≡ slots_of n (λ i. steps_up parent i slot) (j + 1)
+      → Ok (record { length = j + 1; slots = l }) ≡ path_of n live parent slot
+  unfolding path_of laid_of
+  path-laid p l e q o r = rw (sym way ∙ length-root n live parent x g j p e q o, r)

@@ -4,29 +4,31 @@ use mathlib.Core.Path.{sym, ap, ◌∙◌}
 use Prim.Native.Nat.{◌<◌}
 use native.Mathlib.Omega.{arith}
 use Rattle.children.specs.Marks.{slot_count}
-use Rattle.children.proofs.Marks.{seen}
-use Rattle.walks_path.proofs.Steps.{parent_oob, parent-idle, parent_stray, parent-slot, parent_none}
+use Rattle.walks_path.proofs.Steps.{live_told, parent_oob, parent-idle, parent_stray, parent-slot, parent_none}
+use Rattle.walks_path.proofs.parent_of.Goals.{else-p-via-then-p+else-index-ge-MAX_HANDLES, else-p-via-else-p}
 use Rattle.walks_path.proofs.parent_of.Goals as goal
 
 pub returns-then-slot-ge-MAX_HANDLES : goal.returns-then-slot-ge-MAX_HANDLES
-returns-then-slot-ge-MAX_HANDLES c = sym (parent_oob _ _ _ _ c.if-slot-ge-MAX_HANDLES.true)
+returns-then-slot-ge-MAX_HANDLES g c = sym (parent_oob _ _ _ _ c.if-slot-ge-MAX_HANDLES.true)
 
-pub returns-then-not-has_child : goal.returns-then-not-has_child
-returns-then-not-has_child c =
+pub returns-then-is_inactive : goal.returns-then-is_inactive
+returns-then-is_inactive g c =
     let h : c.args.slot < slot_count = omega arith in
-    sym (parent-idle _ _ _ _ h (seen slot_count _ _ h c.has_child.ensures c.if-not-has_child.true))
-
-pub returns-then-p : goal.returns-then-p
-returns-then-p c =
-    let h : c.args.slot < slot_count = omega arith in
-    ap Ok c.index.ensures ∙ sym (parent_none _ _ _ _ h (seen slot_count _ _ h c.has_child.ensures c.if-not-has_child.false) c.if-p.true)
+    sym (parent-idle _ _ _ _ h (live_told c.state_at.ensures c.is_inactive.ensures c.if-is_inactive.true))
 
 pub returns-then-index-ge-MAX_HANDLES : goal.returns-then-index-ge-MAX_HANDLES
-returns-then-index-ge-MAX_HANDLES c =
+returns-then-index-ge-MAX_HANDLES g c =
+    let p = c.parent_at-p in
     let h : c.args.slot < slot_count = omega arith in
-    sym (parent_stray _ _ _ _ h (seen slot_count _ _ h c.has_child.ensures c.if-not-has_child.false) c.if-p.false (omega arith))
+    sym (parent_stray _ _ _ _ h (live_told c.state_at.ensures c.is_inactive.ensures c.if-is_inactive.false) (λ z. c.if-p.true (p.ensures ∙ z)) (let e = p.ensures in omega arith))
 
 pub returns : goal.returns
-returns c =
+returns g c =
+    let p = c.parent_at-p in
     let h : c.args.slot < slot_count = omega arith in
-    ap Ok c.index-3.ensures ∙ sym (parent-slot _ _ _ _ h (seen slot_count _ _ h c.has_child.ensures c.if-not-has_child.false) (omega arith))
+    let live = live_told c.state_at.ensures c.is_inactive.ensures c.if-is_inactive.false in
+    ap Ok (c.index-2.ensures ∙ p.ensures)
+    ∙ sym (elim c.else-p.branch [
+      | else-p-via-then-p+else-index-ge-MAX_HANDLES w ↦ parent-slot _ _ _ _ h live (let e = p.ensures in let i = w.index.ensures in omega arith)
+      | else-p-via-else-p w ↦ parent_none _ _ _ _ h live (sym p.ensures ∙ w.if-p.false)
+    ])
