@@ -3,31 +3,25 @@ use Rattle.std.specs.Prelude.{Result, Ok, Err}
 use mathlib.Core.Bool.{Bool}
 use mathlib.Core.Path.{◌≡◌, ap, ap₂}
 use mathlib.Core.List.{List}
-use mathlib.Core.Logic.{inl, inr}
 use Prim.Native.Nat.{ℕ, ◌≤◌, ◌<◌}
 use native.Mathlib.Omega.{arith}
-use lib.Dec.{ltb}
 use borrow.Author.Tests.{lt-ltb, le-ltb}
 use Rattle.error.specs.Numbers.{done}
 use Rattle.error.specs.declared.DpeErrorCode.{DpeErrorCode}
 use Rattle.error.specs.declared.DpeErrorCode.TheVariants.{InternalError}
 use Rattle.error.specs.declared.InternalErrorCode.TheVariants.{ContextIndexOob}
-use Rattle.children.specs.Marks.{slot_count, marked}
-use Rattle.children.proofs.Cases.{two, ltb-true}
+use Rattle.children.specs.Marks.{slot_count}
 use Rattle.context.specs.declared.Context.{Context}
 use Rattle.table.specs.declared.state.State.{State}
 use Rattle.context.specs.Context.{slot_of}
 use Rattle.forest.specs.Destroy.{doomed_word}
 use Rattle.lookup.specs.Lookup.{lookup_in}
-use Rattle.links.specs.declared.Links.{Links}
-use Rattle.links.specs.Summary.{summary_of, number_in}
 use Rattle.walks.specs.Walks.{down_from, descendants_in}
 use Rattle.walks_run.specs.Run.{run_from, run_in}
-use Rattle.walks.proofs.Summary.{down_summary}
-use Rattle.walks_run.proofs.Summary.{run_summary}
-use Rattle.destroy_context.specs.declared.Destroyed.{Destroyed}
+use Rattle.table.specs.declared.state.Outcome.{Outcome}
+use Rattle.table.specs.State.{refused_of}
 use Rattle.clearing.specs.Clearing.{cleared_by}
-use Rattle.destroy_context.specs.Destroy.{refused_by, on_down, on_run, doomed_of, doomed_in, on_doomed, destroy_slot_of, on_found, destroy_of}
+use Rattle.destroy_context.specs.Destroy.{on_down, on_run, doomed_of, doomed_in, on_doomed, destroy_slot_of, on_found, destroy_of}
 
 -- ---- the slots that go, over the links of all slots
 
@@ -51,21 +45,8 @@ module _ (n : ℕ) (live retired : ℕ → Bool) (parent kids : ℕ → ℕ) (sl
     unfolding doomed_of on_run on_down
     doomed-both run down p q = rw (lt-ltb slot n h, p, q)
 
--- the summary of a table says the same slots
-pub doomed_summary : (s : ℕ → Context) (l : Links) → l ≡ summary_of s → (slot : ℕ)
-    → doomed_of slot_count (marked l.live) (marked l.retired) (number_in l.parents) (number_in l.children) slot ≡ doomed_in slot_count s slot
-unfolding doomed_of descendants_in
-doomed_summary s l e slot = elim (two (ltb slot slot_count)) [
-  | inl y ↦
-      let h = ltb-true slot slot_count y in
-      let down = down_summary s l e slot h in
-      let run = run_summary s l e slot h in
-      rw y (ap₂ (on_run slot) (rw y at down) run)
-  | inr n ↦ rw n
-]
-
 module _ (t : State) (slot : ℕ) where
-  pub slot_refused : (e : DpeErrorCode) → doomed_in slot_count (slot_of t.contexts) slot ≡ Err e → destroy_slot_of t slot ≡ refused_by t e
+  pub slot_refused : (e : DpeErrorCode) → doomed_in slot_count (slot_of t.contexts) slot ≡ Err e → destroy_slot_of t slot ≡ refused_of t e
   unfolding destroy_slot_of on_doomed
   slot_refused e q = ap (on_doomed t) q
 
@@ -80,7 +61,7 @@ module _ (t : State) (slot : ℕ) where
   both_walked h run down p q = slot_cleared (doomed_word down slot run) (doomed-both slot_count _ _ _ _ slot h run down p (rw (lt-ltb slot slot_count h) at q))
 
 module _ (t : State) (handle : List ℕ) (l : ℕ) where
-  pub not_found : (e : DpeErrorCode) → lookup_in slot_count (slot_of t.contexts) handle l ≡ Err e → destroy_of t handle l ≡ refused_by t e
+  pub not_found : (e : DpeErrorCode) → lookup_in slot_count (slot_of t.contexts) handle l ≡ Err e → destroy_of t handle l ≡ refused_of t e
   unfolding destroy_of on_found
   not_found e q = ap (on_found t) q
 
@@ -92,11 +73,11 @@ module _ (t : State) (handle : List ℕ) (l : ℕ) where
 
 module _ (t : State) where
   -- what is refused leaves the table
-  abbrev Kept : Destroyed → Type 0
-  Kept d = (e : DpeErrorCode) → d.answer ≡ Err e → d ≡ refused_by t e
+  abbrev Kept : Outcome (Unit {0}) → Type 0
+  Kept d = (e : DpeErrorCode) → d.answer ≡ Err e → d ≡ refused_of t e
 
-  refusal_kept : (f : DpeErrorCode) → Kept (refused_by t f)
-  refusal_kept f e p = ap (refused_by t) (let z : f ≡ e = cc in z)
+  refusal_kept : (f : DpeErrorCode) → Kept (refused_of t f)
+  refusal_kept f e p = ap (refused_of t) (let z : f ≡ e = cc in z)
 
   doomed_kept : (a : Result ℕ DpeErrorCode) → Kept (on_doomed t a)
   unfolding on_doomed

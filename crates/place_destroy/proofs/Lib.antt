@@ -1,2 +1,0 @@
--- Laws that belong to no one function; callers cite them.
-pub mod Cleared
