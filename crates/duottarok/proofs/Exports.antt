@@ -1,45 +1,75 @@
--- How an exported call ends, way by way: its word and its lent places. Assumes nothing.
-use Rattle.std.specs.Prelude.{Result, Err}
-use mathlib.Core.List.{List}
-use mathlib.Core.Path.{◌≡◌}
-use Prim.Native.Nat.{ℕ}
+-- A call on an image, after reading: what it answers, and what the image is then. Assumes nothing.
+use mathlib.Core.List.{List, ◌++◌, append-nil}
+use mathlib.Core.Path.{◌≡◌, refl, sym, ap, ◌∙◌}
+use Prim.Native.Nat.{ℕ, ◌≤◌}
+use native.Mathlib.Omega.{arith}
+use lib.ListN.{length, drop, get_or, drop_of_length-le}
+use lib.Seq.{take_all}
+use mir.Syntax.{w8}
+use mir.Val.{Fits}
+use Rattle.std.specs.Array.{IsFirstChunk}
+use Rattle.std.specs.Prelude.{Result, Ok, Err}
+use Rattle.std.specs.Result.{OnErr}
 use Rattle.error.specs.Numbers.{done}
 use Rattle.error.specs.declared.DpeErrorCode.{DpeErrorCode}
+use Rattle.wire.specs.Le.{Bytes}
 use Rattle.table.specs.declared.state.State.{State}
-use Rattle.table.specs.declared.state.NewHandle.{NewHandle}
-use Rattle.destroy_context.specs.declared.Destroyed.{Destroyed}
-use Rattle.duottarok.specs.Exports.{found_after, marks_after, handle_after, destroy_after, handle_place}
+use Rattle.table.specs.declared.state.Outcome.{Outcome}
+use Rattle.table.specs.State.{refused_of}
+use Rattle.image.specs.State.{state_size, decode_state, encode_state, readable_of}
+use Rattle.image.proofs.Reading.{readable-size}
+use Rattle.image.proofs.RoundTrip.{state_back}
+use Rattle.slots.specs.Ends.{Ends}
+use Rattle.duottarok.specs.Exports.{ended_after, image_after}
 
--- ---- what a call says after reading: the reading's refusal, or its own answer
+-- an image that was lent whole is what was left in it
+pub whole : (l w : List ℕ) → length l ≡ state_size → w ++ drop state_size l ≡ w
+whole l w n = let h : length l ≤ state_size = omega (arith, n) in ap (λ (r : List ℕ). w ++ r) (drop_of_length-le l h) ∙ append-nil w
 
-module _ (o : Result Unit DpeErrorCode) (x : DpeErrorCode) (q : o ≡ Err x) where
-  pub unread-found : (f : Result ℕ DpeErrorCode) → found_after o f ≡ Err x
-  unread-found f = rw q
+module _ {A : Type 0} (l : List ℕ) (t : State) (o : Outcome A) where
+  pub unread_ends : (e : DpeErrorCode) → readable_of l ≡ Err e → ended_after (readable_of l) t o ≡ refused_of t e
+  unread_ends e q = rw q
 
-  pub unread-marks : (a : Result ℕ DpeErrorCode) → marks_after o a ≡ Err x
-  unread-marks a = rw q
+  pub read_ends : readable_of l ≡ done → ended_after (readable_of l) t o ≡ o
+  read_ends q = rw q
 
-  pub unread-handle : (t : State) (n : NewHandle) → (handle_after o t n).answer ≡ Err x
-  unread-handle t n = rw q
+module _ {A : Type 0} (o : Outcome A) (l : List ℕ) where
+  pub after_refused : (e : DpeErrorCode) → o.answer ≡ Err e → l ≡ image_after o l
+  after_refused e q = rw q
 
-  pub unread-destroy : (t : State) (d : Destroyed) → (destroy_after o t d).answer ≡ Err x
-  unread-destroy t d = rw q
+  pub after_done : (v : A) (w : List ℕ) → o.answer ≡ Ok v → w ≡ encode_state o.state → w ≡ image_after o l
+  after_done v w q e = e ∙ rw q refl
 
-module _ (o : Result Unit DpeErrorCode) (q : o ≡ done) where
-  pub read_found : (f : Result ℕ DpeErrorCode) → found_after o f ≡ f
-  read_found f = rw q
+  by_answer : (r : Result A DpeErrorCode) (w : List ℕ) → r ≡ o.answer → OnErr r (w ≡ l) → w ≡ encode_state o.state → w ≡ image_after o l
+  by_answer (Ok v) w p u e = after_done v w (sym p) e
+  by_answer (Err f) w p u e = u ∙ after_refused f (sym p)
 
-  pub read-marks : (a : Result ℕ DpeErrorCode) → marks_after o a ≡ a
-  read-marks a = rw q
+  -- the bytes after a call on an image that reads
+  pub ends_after : (w : List ℕ) {r : Result A DpeErrorCode} → Bytes w → Ends decode_state (λ x. readable_of x ≡ done) l w r o → w ≡ image_after o l
+  ends_after w {r} b e = by_answer r w e.answers e.untouched (sym (state_back w b e.reads) ∙ ap encode_state e.table)
 
-  pub read-handle : (t : State) (n : NewHandle) → handle_after o t n ≡ n
-  read-handle t n = rw q
+-- ---- a call on an image that was lent whole: t is what was lent, and w what was left in it
 
-  pub read-destroy : (t : State) (d : Destroyed) → destroy_after o t d ≡ d
-  read-destroy t d = rw q
+module _ {A : Type 0} (o : State → Outcome A) (l t w : List ℕ) {r : Result A DpeErrorCode} (q : readable_of l ≡ done) (p : t ≡ l)
+    (e : Ends decode_state (λ x. readable_of x ≡ done) t w r (o (decode_state t))) where
+  here : Ends decode_state (λ x. readable_of x ≡ done) l w r (o (decode_state l))
+  here = rw p at e
 
--- ---- a new handle, or a refusal
+  ended : ended_after (readable_of l) (decode_state l) (o (decode_state l)) ≡ o (decode_state l)
+  ended = read_ends l (decode_state l) (o (decode_state l)) q
 
-module _ (n : NewHandle) (old : List ℕ) where
-  pub kept : (x : DpeErrorCode) → n.answer ≡ Err x → old ≡ handle_place n old
-  kept x q = rw q
+  pub lent_value : r ≡ (ended_after (readable_of l) (decode_state l) (o (decode_state l))).answer
+  lent_value = here.answers ∙ ap (λ (x : Outcome A). x.answer) (sym ended)
+
+  left : w ++ drop state_size l ≡ w
+  left = whole l w (readable-size l q)
+
+  pub lent_image : ((i : ℕ) → Fits w8 (get_or (w ++ drop state_size l) i 0))
+      → w ++ drop state_size l ≡ image_after (ended_after (readable_of l) (decode_state l) (o (decode_state l))) l
+  lent_image f =
+      let b : Bytes w = record { each = λ i. let g = rw left at f i in omega (arith, g) } in
+      left ∙ ends_after (o (decode_state l)) l w b here ∙ ap (λ (x : Outcome A). image_after x l) (sym ended)
+
+-- what is lent is the whole image
+pub lent_whole : (l t : List ℕ) → readable_of l ≡ done → IsFirstChunk l t state_size → t ≡ l
+lent_whole l t q f = f.same ∙ take_all state_size l (omega (arith, readable-size l q))

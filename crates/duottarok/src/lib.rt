@@ -147,7 +147,8 @@ pub fn dpe_path(image: &[u8], slot: usize, slots: &mut [u8; MAX_HANDLES], length
 {
     match path(image, slot) {
         Ok(p) => {
-            *slots = p.slots;
+            let laid = p.slots;
+            *slots = laid;
             *length = p.length as u64;
             0
         }
