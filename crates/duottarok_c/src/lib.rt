@@ -2,12 +2,11 @@
 #![tactic(auto)]
 
 ghost use Rattle.std.specs.Prelude.{◌≡◌};
+ghost use Rattle.std.specs.Result.{result_unwrap_or};
 ghost use Rattle.error.specs.Numbers.{word_of};
-ghost use Rattle.walks_path.specs.Path.{slots_place};
-ghost use Rattle.peek_validate.specs.Validate.{validate_at};
-ghost use Rattle.tell.specs.Tell.{found_word, found_place, marks_word, marks_place};
-ghost use Rattle.place.specs.Place.{image_after, destroyed_after};
-ghost use Rattle.duottarok.specs.Exports.{handle_place, lookup_at, initialize_at, rotate_at, destroy_at, descendants_at, path_at, length_at, count_at};
+ghost use Rattle.walks_path.specs.Path.{slots_place, length_place};
+ghost use Rattle.validation.specs.Validate.{validate_at};
+ghost use Rattle.duottarok.specs.Exports.{lookup_at, initialize_at, rotate_at, destroy_at, descendants_at, path_at, count_at, image_after};
 
 use children::MAX_HANDLES;
 
@@ -27,8 +26,8 @@ pub extern "C" fn dpe_lookup(
     locality: u32,
     slot: &mut u64,
 ) -> u64
-    ensures value { result ≡ found_word (lookup_at image.now handle.now locality) }
-    ensures slot_after { slot.new ≡ found_place (lookup_at image.now handle.now locality) slot.old }
+    ensures value { result ≡ word_of (lookup_at image.now handle.now locality) }
+    ensures slot_after { slot.new ≡ result_unwrap_or (lookup_at image.now handle.now locality) slot.old }
 {
     duottarok::dpe_lookup(image, handle, locality, slot)
 }
@@ -44,7 +43,7 @@ pub extern "C" fn dpe_initialize_context(
 ) -> u64
     ensures value { result ≡ word_of (initialize_at image.old flags locality candidates.now).answer }
     ensures image_after { image.new ≡ image_after (initialize_at image.old flags locality candidates.now) image.old }
-    ensures new_handle_after { new_handle.new ≡ handle_place (initialize_at image.old flags locality candidates.now) new_handle.old }
+    ensures new_handle_after { new_handle.new ≡ result_unwrap_or (initialize_at image.old flags locality candidates.now).answer new_handle.old }
 {
     duottarok::dpe_initialize_context(image, flags, locality, candidates, new_handle)
 }
@@ -61,7 +60,7 @@ pub extern "C" fn dpe_rotate_context(
 ) -> u64
     ensures value { result ≡ word_of (rotate_at image.old handle.now locality flags candidates.now).answer }
     ensures image_after { image.new ≡ image_after (rotate_at image.old handle.now locality flags candidates.now) image.old }
-    ensures new_handle_after { new_handle.new ≡ handle_place (rotate_at image.old handle.now locality flags candidates.now) new_handle.old }
+    ensures new_handle_after { new_handle.new ≡ result_unwrap_or (rotate_at image.old handle.now locality flags candidates.now).answer new_handle.old }
 {
     duottarok::dpe_rotate_context(image, handle, locality, flags, candidates, new_handle)
 }
@@ -74,7 +73,7 @@ pub extern "C" fn dpe_destroy_context(
     locality: u32,
 ) -> u64
     ensures value { result ≡ word_of (destroy_at image.old handle.now locality).answer }
-    ensures image_after { image.new ≡ destroyed_after (destroy_at image.old handle.now locality) image.old }
+    ensures image_after { image.new ≡ image_after (destroy_at image.old handle.now locality) image.old }
 {
     duottarok::dpe_destroy_context(image, handle, locality)
 }
@@ -82,8 +81,8 @@ pub extern "C" fn dpe_destroy_context(
 // All that is below a slot, as marks.
 #[unsafe(no_mangle)]
 pub extern "C" fn dpe_descendants(image: &[u8], slot: usize, marks: &mut u64) -> u64
-    ensures value { result ≡ marks_word (descendants_at image.now slot) }
-    ensures marks_after { marks.new ≡ marks_place (descendants_at image.now slot) marks.old }
+    ensures value { result ≡ word_of (descendants_at image.now slot) }
+    ensures marks_after { marks.new ≡ result_unwrap_or (descendants_at image.now slot) marks.old }
 {
     duottarok::dpe_descendants(image, slot, marks)
 }
@@ -96,9 +95,9 @@ pub extern "C" fn dpe_path(
     slots: &mut [u8; MAX_HANDLES],
     length: &mut u64,
 ) -> u64
-    ensures value { result ≡ found_word (length_at image.now slot) }
-    ensures slots_after { slots.new ≡ slots_place (length_at image.now slot) (path_at image.now slot).slots slots.old }
-    ensures length_after { length.new ≡ found_place (length_at image.now slot) length.old }
+    ensures value { result ≡ word_of (path_at image.now slot) }
+    ensures slots_after { slots.new ≡ slots_place (path_at image.now slot) slots.old }
+    ensures length_after { length.new ≡ length_place (path_at image.now slot) length.old }
 {
     duottarok::dpe_path(image, slot, slots, length)
 }
@@ -106,8 +105,8 @@ pub extern "C" fn dpe_path(
 // How many contexts are in a state: 0 inactive, 1 active, 2 retired.
 #[unsafe(no_mangle)]
 pub extern "C" fn dpe_count(image: &[u8], state: u8, count: &mut u64) -> u64
-    ensures value { result ≡ found_word (count_at image.now state) }
-    ensures count_after { count.new ≡ found_place (count_at image.now state) count.old }
+    ensures value { result ≡ word_of (count_at image.now state) }
+    ensures count_after { count.new ≡ result_unwrap_or (count_at image.now state) count.old }
 {
     duottarok::dpe_count(image, state, count)
 }

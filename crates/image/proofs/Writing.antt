@@ -1,5 +1,5 @@
 -- Laws of writing a whole table: how long what is written is, and that fields written one after the other are the whole. Assumes nothing.
-use Rattle.std.specs.Prelude.{Ok, Err}
+use Rattle.std.specs.Prelude.{Result, Ok, Err}
 use mathlib.Core.Path.{◌≡◌, refl, sym, ap, ◌∙◌}
 use mathlib.Core.List.{List, [], ◌∷◌, ◌++◌, append_assoc, append-nil}
 use Prim.Native.Nat.{ℕ, zero, suc, ◌+◌, ◌*◌, ◌≤◌, ◌<◌}
@@ -9,6 +9,8 @@ use borrow.Author.Tests.{eq-eqb, ne_eqb}
 use borrow.Rule.Slice.PartMut.{put_mid}
 use lib.ListN.{length, take, set, length-append}
 use lib.Seq.{take-suc, take-length}
+use Rattle.std.specs.Result.{IsOk}
+use Rattle.error.specs.declared.DpeErrorCode.{DpeErrorCode}
 use Rattle.error.specs.declared.DpeErrorCode.TheVariants.{Added}
 use Rattle.error.specs.declared.AddedErrorCode.TheVariants.{BadLength}
 use Rattle.children.specs.Marks.{slot_count}
@@ -107,3 +109,8 @@ module _ (t : State) (l : List ℕ) where
   pub write_whole : length l ≡ state_size → (Ok tt ≡ write_answer l) × (encode_state t ≡ written t l)
   unfolding write_answer written
   write_whole e = (rw (eq-eqb _ _ e), rw (eq-eqb _ _ e))
+
+-- a buffer of an image's length is never refused
+pub writes : (l : List ℕ) {a : Result (Unit {0}) DpeErrorCode} → a ≡ write_answer l → length l ≡ state_size → IsOk a
+unfolding write_answer
+writes l p n = rw (p, eq-eqb _ _ n) refl

@@ -27,8 +27,36 @@ const HANDLE_BYTE: u8 = 0xc3;
 
 const SLOTS_BYTE: u8 = 0x96;
 
+// The call that a case makes; a byte that names none is the path's.
+#[derive(Clone, Copy, Debug, PartialEq, Eq)]
+enum Call {
+    Validate,
+    Lookup,
+    Initialize,
+    Rotate,
+    Destroy,
+    Descendants,
+    Path,
+    Count,
+}
+
+impl From<u8> for Call {
+    fn from(code: u8) -> Call {
+        match code {
+            0 => Call::Validate,
+            1 => Call::Lookup,
+            2 => Call::Initialize,
+            3 => Call::Rotate,
+            4 => Call::Destroy,
+            5 => Call::Descendants,
+            7 => Call::Count,
+            _ => Call::Path,
+        }
+    }
+}
+
 // The word of a call, and its lent places afterwards.
-#[derive(Clone, Copy)]
+#[derive(Clone, Copy, Debug)]
 struct Answer {
     word: u64,
     number: u64,
@@ -37,13 +65,13 @@ struct Answer {
 }
 
 // How many bytes a case has, and whether the answer was the Rust's.
-#[derive(Clone, Copy)]
+#[derive(Clone, Copy, Debug)]
 struct Case {
     size: usize,
     same: bool,
 }
 
-#[derive(Clone, Copy)]
+#[derive(Clone, Copy, Debug)]
 struct Tally {
     cases: u64,
     differ: u64,
@@ -51,95 +79,45 @@ struct Tally {
 
 // Sets the bytes that a list of changes names.
 fn change(image: &mut [u8], changes: &[u8]) {
-    let mut i: usize = 0;
-    while i + 3 <= changes.len() {
-        let at = index(wire::read_u16(changes, i));
+    for c in changes.chunks_exact(3) {
+        let at = usize::from(wire::read_u16(c, 0));
         if at < image.len() {
-            image[at] = changes[i + 2];
+            image[at] = c[2];
         }
-        i += 3;
     }
 }
 
-fn index(x: u16) -> usize
-    ensures { result < 65536 }
-{
-    x as usize
-}
-
-// The answer of a call that writes a number.
-fn counted(word: u64, number: u64) -> Answer {
-    Answer {
-        word,
-        number,
-        handle: [HANDLE_BYTE; 16],
-        slots: [SLOTS_BYTE; 32],
-    }
-}
-
-// The answer of a call that writes a handle.
-fn handed(word: u64, handle: [u8; 16]) -> Answer {
-    Answer {
-        word,
-        number: NUMBER,
-        handle,
-        slots: [SLOTS_BYTE; 32],
-    }
-}
-
-// A call that writes nothing to the image.
-fn ask(image: &[u8], h: &[u8]) -> Answer
-    requires { 104 ≤ length h.now }
-{
-    let locality = wire::read_u32(h, 8);
-    let slot = wire::read_u64(h, 16) as usize;
-    let handle = wire::read_array(h, 24);
-    let mut number = NUMBER;
-    let call = h[0];
-    if call == 0 {
-        return counted(dpe_validate(image), number);
-    }
-    if call == 1 {
-        let word = dpe_lookup(image, &handle, locality, &mut number);
-        return counted(word, number);
-    }
-    if call == 5 {
-        let word = dpe_descendants(image, slot, &mut number);
-        return counted(word, number);
-    }
-    if call == 7 {
-        let word = dpe_count(image, h[1], &mut number);
-        return counted(word, number);
-    }
-    let mut slots = [SLOTS_BYTE; 32];
-    let word = dpe_path(image, slot, &mut slots, &mut number);
-    Answer {
-        word,
-        number,
-        handle: [HANDLE_BYTE; 16],
-        slots,
-    }
-}
-
-// A call that may write to the image.
-fn act(image: &mut [u8], h: &[u8], candidates: &[u8]) -> Answer
+// The answer of a call on the image, which a refusal and half of the calls leave as it was.
+fn answer(call: Call, image: &mut [u8], h: &[u8], candidates: &[u8]) -> Answer
     requires { 104 ≤ length h.now }
 {
     let locality = wire::read_u32(h, 8);
     let flags = wire::read_u32(h, 12);
+    let slot = wire::read_u64(h, 16) as usize;
     let handle = wire::read_array(h, 24);
+    let mut number = NUMBER;
     let mut new_handle = [HANDLE_BYTE; 16];
-    let call = h[0];
-    if call == 2 {
-        let word = dpe_initialize_context(image, flags, locality, candidates, &mut new_handle);
-        return handed(word, new_handle);
+    let mut slots = [SLOTS_BYTE; 32];
+    let word = match call {
+        Call::Validate => dpe_validate(image),
+        Call::Lookup => dpe_lookup(image, &handle, locality, &mut number),
+        Call::Initialize => {
+            dpe_initialize_context(image, flags, locality, candidates, &mut new_handle)
+        }
+        Call::Rotate => {
+            dpe_rotate_context(image, &handle, locality, flags, candidates, &mut new_handle)
+        }
+        Call::Destroy => dpe_destroy_context(image, &handle, locality),
+        Call::Descendants => dpe_descendants(image, slot, &mut number),
+        Call::Path => dpe_path(image, slot, &mut slots, &mut number),
+        Call::Count => dpe_count(image, h[1], &mut number),
+    };
+    Answer {
+        word,
+        number,
+        handle: new_handle,
+        slots,
     }
-    if call == 3 {
-        let word = dpe_rotate_context(image, &handle, locality, flags, candidates, &mut new_handle);
-        return handed(word, new_handle);
-    }
-    let word = dpe_destroy_context(image, &handle, locality);
-    handed(word, new_handle)
 }
 
 // Whether an answer is the one that the header holds.
@@ -157,16 +135,11 @@ fn run(h: &[u8], before: &[u8], after: &[u8], candidates: &[u8]) -> bool
     requires { 104 ≤ length h.now }
 {
     let mut image = [0u8; state::SIZE];
-    image_table::write_state(State::new(0, 0), &mut image);
+    image_table::write_state(State::new(0, 0), &mut image).unwrap();
     change(&mut image, before);
     let mut expected = image;
     change(&mut expected, after);
-    let call = h[0];
-    if (call >= 2) & (call <= 4) {
-        let a = act(&mut image, h, candidates);
-        return agrees(a, h) & (image == expected);
-    }
-    let a = ask(&image, h);
+    let a = answer(Call::from(h[0]), &mut image, h, candidates);
     agrees(a, h) & (image == expected)
 }
 
@@ -183,9 +156,9 @@ fn first_case(s: &[u8]) -> Case
         };
     }
     let h = HEADER_SIZE;
-    let a = h + 3 * index(wire::read_u16(s, 2));
-    let b = a + 3 * index(wire::read_u16(s, 4));
-    let e = b + index(wire::read_u16(s, 6));
+    let a = h + 3 * usize::from(wire::read_u16(s, 2));
+    let b = a + 3 * usize::from(wire::read_u16(s, 4));
+    let e = b + usize::from(wire::read_u16(s, 6));
     if n < e {
         return Case {
             size: n,
@@ -200,10 +173,10 @@ fn first_case(s: &[u8]) -> Case
 fn replay(list: &[u8]) -> Tally {
     let mut cases: u64 = 0;
     let mut differ: u64 = 0;
-    let mut at: usize = 0;
-    while at < list.len() {
-        let c = first_case(&list[at..]);
-        at += c.size;
+    let mut rest = list;
+    while !rest.is_empty() {
+        let c = first_case(rest);
+        rest = &rest[c.size..];
         cases = cases.wrapping_add(1);
         if !c.same {
             differ = differ.wrapping_add(1);

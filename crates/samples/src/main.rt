@@ -159,14 +159,14 @@ fn chain() -> State {
 // Writes the image of a table.
 fn put(rt: &impl Print, t: State) -> io::Result<()> {
     let mut image = [0u8; image::state::SIZE];
-    image_table::write_state(t, &mut image);
+    image_table::write_state(t, &mut image).unwrap();
     rt.write_all(&image)
 }
 
 // Writes the image of a table with a state byte that says no state.
 fn put_bad_state(rt: &impl Print, t: State) -> io::Result<()> {
     let mut image = [0u8; image::state::SIZE];
-    image_table::write_state(t, &mut image);
+    image_table::write_state(t, &mut image).unwrap();
     let at = image::state::CONTEXTS_AT + image_context::SIZE * BAD_SLOT;
     image[at + image_kinds::STATE_AT] = BAD_STATE;
     rt.write_all(&image)

@@ -21,10 +21,6 @@ told-marks e (ok x) w q = let z : x ≡ w = cc in ap ok z
 
 -- ---- at a slot
 
--- the state that was read says whether the slot is live
-pub live_told : {a s : ContextState} {r b : Bool} → a ≡ s → r ≡ is_inactive a → r ≡ b → is_live s ≡ not b
-live_told p q o = ap not (ap is_inactive (sym p) ∙ sym q ∙ o)
-
 -- how the walk answers for a child, where `down` leads to it
 abbrev pub child : ℕ → (ℕ → Bool) → (ℕ → ℕ) → ℕ → ℕ → ℕ → Answer
 child n live kids depth down c = cond (marked down c) loops (walk_down n live kids depth down c)

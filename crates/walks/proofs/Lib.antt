@@ -2,4 +2,3 @@
 pub mod Down
 pub mod Rest
 pub mod Returns
-pub mod Summary

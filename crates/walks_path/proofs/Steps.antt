@@ -24,10 +24,6 @@ use Rattle.context.specs.Context.{no_parent, is_inactive, is_live}
 use Rattle.links.specs.Summary.{steps_up}
 use Rattle.walks_path.specs.Path.{parent_of, onward, length_from, slots_of, laid_of, path_of}
 
--- the state that was read says whether the slot is live
-pub live_told : {a s : ContextState} {r b : Bool} → a ≡ s → r ≡ is_inactive a → r ≡ b → is_live s ≡ not b
-live_told p q o = ap not (ap is_inactive (sym p) ∙ sym q ∙ o)
-
 module _ (n : ℕ) (live : ℕ → Bool) (parent : ℕ → ℕ) (x : ℕ) where
   -- ---- the parent of a slot
 

@@ -4,7 +4,8 @@ use mathlib.Core.Path.{sym, ap, ◌∙◌}
 use Prim.Native.Nat.{◌<◌}
 use native.Mathlib.Omega.{arith}
 use Rattle.children.specs.Marks.{slot_count}
-use Rattle.walks_path.proofs.Steps.{live_told, parent_oob, parent-idle, parent_stray, parent-slot, parent_none}
+use Rattle.context.proofs.States.{live_told}
+use Rattle.walks_path.proofs.Steps.{parent_oob, parent-idle, parent_stray, parent-slot, parent_none}
 use Rattle.walks_path.proofs.parent_of.Goals.{else-p-via-then-p+else-index-ge-MAX_HANDLES, else-p-via-else-p}
 use Rattle.walks_path.proofs.parent_of.Goals as goal
 

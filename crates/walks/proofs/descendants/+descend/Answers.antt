@@ -8,7 +8,8 @@ use Rattle.error.proofs.Exits.{passed_on}
 use Rattle.children.specs.Marks.{slot_count}
 use Rattle.forest.specs.Walk.{ok, both}
 use Rattle.forest.specs.Told.{told_of}
-use Rattle.walks.proofs.Down.{live_told, on_path, off_path, told-marks, walk_spent, walk_inactive}
+use Rattle.context.proofs.States.{live_told}
+use Rattle.walks.proofs.Down.{on_path, off_path, told-marks, walk_spent, walk_inactive}
 use Rattle.walks.proofs.Rest.{turn_refused, turn_on, turn_last, slot-alone, turn-first}
 use Rattle.children.proofs.Marks.{seen, next-after}
 use Rattle.walks.proofs.descendants.+descend.Goals as goal
