@@ -38,7 +38,7 @@ fn are_good(image: &[u8]) -> bool
 }
 
 // Whether the image reads.
-fn is_readable(image: &[u8]) -> bool
+pub fn is_readable(image: &[u8]) -> bool
     ensures { result ≡ is_readable image.now }
 {
     if image.len() == SIZE {

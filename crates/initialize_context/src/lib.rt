@@ -30,7 +30,7 @@ pub fn both_or_neither(flags: u32) -> bool
 }
 
 // A new context with no parent.
-fn root(
+pub fn root(
     context_type: ContextType,
     handle: [u8; handle::SIZE],
     locality: u32,
