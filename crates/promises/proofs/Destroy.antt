@@ -5,7 +5,6 @@ use mathlib.Core.Path.{◌≡◌, refl, ap, ◌∙◌}
 use mathlib.Core.List.{List}
 use mathlib.Core.Logic.{◌⊎◌}
 use Prim.Native.Nat.{ℕ, ◌<◌}
-use native.Mathlib.Omega.{arith}
 use Rattle.error.specs.Numbers.{done}
 use Rattle.error.specs.declared.DpeErrorCode.{DpeErrorCode}
 use Rattle.error.specs.declared.DpeErrorCode.TheVariants.{InternalError, InvalidHandle, InvalidLocality}
@@ -97,7 +96,7 @@ pub destroy_only : (t : State) → Words slot_count (slot_of t.contexts) → For
 destroy_only t W F h l e q = go (lookup_in slot_count (slot_of t.contexts) h l) refl
   where
     go : (f : Result ℕ DpeErrorCode) → lookup_in slot_count (slot_of t.contexts) h l ≡ f → (e ≡ InvalidHandle) ⊎ (e ≡ InvalidLocality)
-    go (Ok i) p = let d = (destroy_clears t W F h l i p).0 in absurd (let z : ◌≡◌ {A = ℕ} 0 1 = cc in omega arith)
+    go (Ok i) p = let d = (destroy_clears t W F h l i p).0 in absurd (cc)
     go (Err r) p =
         let d = (destroy_refuses t h l r p).0 in
         let z : r ≡ e = cc in

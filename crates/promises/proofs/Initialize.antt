@@ -183,7 +183,7 @@ inactive-is Active e = clash e refl
 inactive-is Retired e = clash e refl
 
 simulation-apart : {A : Type 0} → Simulation ≡ Normal → A
-simulation-apart e = absurd (let z : ◌≡◌ {A = ℕ} 0 1 = cc in omega arith)
+simulation-apart e = absurd (cc)
 
 module _ (t : State) (F : Forest t) (i : ℕ) (free : Free slot_count (slot_of t.contexts) i) (k : ContextType) (new : List ℕ) (l : ℕ) (rec : Bool) where
   made : (init : ℕ) → (t.has_initialized ≢ 0 → init ≢ 0) → (k ≡ Simulation → marked t.support simulation_bit ≡ true)

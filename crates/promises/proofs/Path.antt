@@ -16,7 +16,8 @@ use Rattle.context.specs.Context.{no_parent, slot_of}
 use Rattle.forest.specs.Links.{Linked, up}
 use Rattle.forest.proofs.Links.{up_in, no_slot, live_below, near_iff}
 use Rattle.links.specs.Summary.{live_at, parent_at, steps_up, table_of}
-use Rattle.walks_path.specs.Path.{length_from, slots_of, path_of, path_in}
+use Rattle.walks_path.specs.declared.Path.{Path}
+use Rattle.walks_path.specs.Path.{length_from, slots_of, laid_of, path_of, path_in}
 use Rattle.walks_path.proofs.Steps.{parent-slot, parent_none, length-root, length_on}
 use Rattle.verdict.specs.Tests.{Header, header_of}
 use Rattle.verdict.specs.Rule.{Live, ancestor, ForestRule, Forest}
@@ -27,7 +28,7 @@ use Rattle.promises.proofs.Steps.{way-live}
 
 module _ (n : ℕ) (s : ℕ → Context) where
   -- the slot k steps above the last of a path of m slots
-  laid : (i m k : ℕ) → m ≤ n → k < m → get_or (slots_of n (λ j. steps_up (parent_at s) j i) (Ok m)) (m - suc k) 0 ≡ ancestor s k i
+  laid : (i m k : ℕ) → m ≤ n → k < m → get_or (slots_of n (λ j. steps_up (parent_at s) j i) m) (m - suc k) 0 ≡ ancestor s k i
   unfolding slots_of
   laid i m k few h =
       let q : m - suc (m - suc k) ≡ k = omega arith in
@@ -59,8 +60,9 @@ module _ (n : ℕ) (s : ℕ → Context) where
         ∙ ap Ok (let z : (j + 1) + suc m ≡ j + suc (suc m) = omega arith in z)
 
 -- for any number of slots up to 64
-pub path : (n : ℕ) (h : Header) (s : ℕ → Context) → n ≤ mark_count → ForestRule n h s → (i : ℕ) → Live n s i → PathTo n s i (path_in n s i)
-unfolding path_of
+pub path : (n : ℕ) (h : Header) (s : ℕ → Context) → n ≤ mark_count → ForestRule n h s → (i : ℕ) → Live n s i
+    → (p : Path) × (path_in n s i ≡ Ok p) × PathTo n s i p
+unfolding path_of laid_of
 path n h s small F i v =
     let L = links n h s small F in
     let l = (live_is n s i).1 v in
@@ -68,18 +70,19 @@ path n h s small F i v =
     let f : length_from n (live_at s) (parent_at s) n 0 i ≡ Ok (suc a.steps) =
     rises n s L a.steps n 0 i a.few a.alive a.root ∙ ap Ok (let z : 0 + suc a.steps ≡ suc a.steps = omega arith in z) in
     let w = a.few in
-    let q : suc a.steps - 1 ≡ a.steps = omega arith in
-    record {
-      count = suc a.steps;
-      found = f;
-      some = omega arith;
-      few = w;
-      slots = λ k lt. rw f (laid n s i (suc a.steps) k w lt);
-      live = λ k lt. way-live n s small L a.steps k i (omega arith) a.alive;
-      root = rw (q, ancestor-is n s L a.steps i a.alive) (sym (parent_is n s (up (table_of n s) a.steps i) a.alive) ∙ a.root);
-    }
+    let q : suc a.steps - 1 ≡ a.steps = omega arith in (
+      record { length = suc a.steps; slots = slots_of n (λ j. steps_up (parent_at s) j i) (suc a.steps) },
+      rw f,
+      record {
+        some = omega arith;
+        few = w;
+        slots = λ k lt. laid n s i (suc a.steps) k w lt;
+        live = λ k lt. way-live n s small L a.steps k i (omega arith) a.alive;
+        root = rw (q, ancestor-is n s L a.steps i a.alive) (sym (parent_is n s (up (table_of n s) a.steps i) a.alive) ∙ a.root);
+      },
+    )
 
 -- for a table
 pub path_found : (t : State) → Forest t → (i : ℕ) → Live slot_count (slot_of t.contexts) i
-    → PathTo slot_count (slot_of t.contexts) i (path_in slot_count (slot_of t.contexts) i)
+    → (p : Path) × (path_in slot_count (slot_of t.contexts) i ≡ Ok p) × PathTo slot_count (slot_of t.contexts) i p
 path_found t F i v = path slot_count (header_of t) (slot_of t.contexts) few F i v

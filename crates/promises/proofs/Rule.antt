@@ -35,13 +35,13 @@ pub record Own (n : ℕ) (h : Header) (c : Context) : Type 0 where
 
 -- a state is not another
 pub active-apart : {A : Type 0} → Active ≡ Inactive → A
-active-apart e = absurd (let z : ◌≡◌ {A = ℕ} 0 1 = cc in omega arith)
+active-apart e = absurd (cc)
 
 pub retired-apart : {A : Type 0} → Retired ≡ Inactive → A
-retired-apart e = absurd (let z : ◌≡◌ {A = ℕ} 0 1 = cc in omega arith)
+retired-apart e = absurd (cc)
 
 pub active-retired : {A : Type 0} → Active ≡ Retired → A
-active-retired e = absurd (let z : ◌≡◌ {A = ℕ} 0 1 = cc in omega arith)
+active-retired e = absurd (cc)
 
 pub retired_is : (x : ContextState) → is_retired x ≡ true → x ≡ Retired
 retired_is Inactive e = clash e refl

@@ -82,15 +82,13 @@ pub record Crowded (n : ℕ) (s : ℕ → Context) (l : ℕ) : Type 0 where
 
 -- ---- path
 
--- the path p to i, which is no refusal: live slots from one that has no parent down to i, each the parent of the next
+-- the path p to i: live slots from one that has no parent down to i, each the parent of the next
 pub record PathTo (n : ℕ) (s : ℕ → Context) (i : ℕ) (p : Path) : Type 0 where
-  pub count : ℕ
-  pub found : p.length ≡ Ok count
-  pub some : 0 < count
-  pub few : count ≤ n
-  pub slots : (k : ℕ) → k < count → get_or p.slots (count - suc k) 0 ≡ ancestor s k i
-  pub live : (k : ℕ) → k < count → Live n s (ancestor s k i)
-  pub root : (s (ancestor s (count - 1) i)).parent_idx ≡ no_parent
+  pub some : 0 < p.length
+  pub few : p.length ≤ n
+  pub slots : (k : ℕ) → k < p.length → get_or p.slots (p.length - suc k) 0 ≡ ancestor s k i
+  pub live : (k : ℕ) → k < p.length → Live n s (ancestor s k i)
+  pub root : (s (ancestor s (p.length - 1) i)).parent_idx ≡ no_parent
 
 -- ---- the promises, of a table t that the validator says yes to
 
@@ -113,4 +111,5 @@ pub record Promises (t : State) : Type 0 where
       → (w : ℕ) × (descendants_in slot_count (slot_of t.contexts) i ≡ Ok w)
       × ((x : ℕ) → (marked w x ≡ true) ↔ BelowIn slot_count (slot_of t.contexts) x i)
   -- the path refuses no live slot
-  pub path_found : (i : ℕ) → Live slot_count (slot_of t.contexts) i → PathTo slot_count (slot_of t.contexts) i (path_in slot_count (slot_of t.contexts) i)
+  pub path_found : (i : ℕ) → Live slot_count (slot_of t.contexts) i
+      → (p : Path) × (path_in slot_count (slot_of t.contexts) i ≡ Ok p) × PathTo slot_count (slot_of t.contexts) i p
