@@ -8,7 +8,7 @@ use Rattle.context.specs.declared.ContextState.{ContextState}
 use Rattle.context.specs.declared.ContextState.TheVariants.{Active, Retired}
 use Rattle.context.specs.declared.Context.{Context}
 use Rattle.table.specs.declared.state.State.{State}
-use Rattle.table.specs.declared.state.NewHandle.{NewHandle}
+use Rattle.table.specs.declared.state.Outcome.{Outcome}
 use Rattle.handle.specs.Handle.{handle_size}
 use Rattle.context.specs.Context.{no_parent, new_context, slot_of}
 use Rattle.table.specs.State.{new_state, with_slot, with_initialized}
@@ -16,7 +16,6 @@ use Rattle.links.specs.Summary.{live_at, kids_at, marks_of}
 use Rattle.lookup.specs.Lookup.{lookup_in}
 use Rattle.initialize_context.specs.Initialize.{initialized_of}
 use Rattle.walks.specs.Walks.{descendants_in}
-use Rattle.destroy_context.specs.declared.Destroyed.{Destroyed}
 use Rattle.destroy_context.specs.Destroy.{destroy_of}
 use Rattle.verdict.specs.Tests.{verdict_of, outcome_of}
 
@@ -33,7 +32,7 @@ pub data Asked : Type 0 where
   descendants : ℕ → Asked
 
 -- what came of it: the answer's word, the values, and the word of the verdict afterwards
-pub record Result : Type 0 where
+pub record Told : Type 0 where
   pub word : ℕ
   pub values : List ℕ
   pub verdict : ℕ
@@ -43,37 +42,37 @@ pub record Result : Type 0 where
 abbrev pub verdict_word : State → ℕ
 verdict_word t = word_of (outcome_of (verdict_of t))
 
-abbrev pub slot_value : Result ℕ DpeErrorCode → List ℕ
-slot_value (Ok i) = i ∷ []
-slot_value (Err e) = []
+-- the value of an answer; a refusal has none
+abbrev pub value_of : Result ℕ DpeErrorCode → List ℕ
+value_of (Ok i) = i ∷ []
+value_of (Err e) = []
 
--- values that stand for success alone
-abbrev pub values_if : Result Unit DpeErrorCode → List ℕ → List ℕ
-values_if (Ok tt) v = v
-values_if (Err e) v = []
+-- the slot of the context that was given the new handle
+abbrev pub made_value : State → ℕ → Result (List ℕ) DpeErrorCode → List ℕ
+made_value t l (Ok h) = value_of (lookup_in slot_count (slot_of t.contexts) h l)
+made_value t l (Err e) = []
 
-abbrev pub initialised : ℕ → NewHandle → Result
+abbrev pub initialised : ℕ → Outcome (List ℕ) → Told
 initialised l n = record {
   word = word_of n.answer;
-  values = values_if n.answer (slot_value (lookup_in slot_count (slot_of n.state.contexts) n.handle l));
+  values = made_value n.state l n.answer;
   verdict = verdict_word n.state;
 }
 
-abbrev pub destroyed_result : Destroyed → Result
+abbrev pub destroyed_result : Outcome (Unit {0}) → Told
 destroyed_result d = record {
   word = word_of d.answer;
   values = marks_of (live_at (slot_of d.state.contexts)) slot_count ∷ kids_at (slot_of d.state.contexts) 1 ∷ [];
   verdict = verdict_word d.state;
 }
 
-abbrev pub marks_result : State → Result ℕ DpeErrorCode → Result
-marks_result t (Ok m) = record { word = word_of done; values = m ∷ []; verdict = verdict_word t }
-marks_result t (Err e) = record { word = word_of (Err e); values = []; verdict = verdict_word t }
+abbrev pub marks_result : State → Result ℕ DpeErrorCode → Told
+marks_result t m = record { word = word_of m; values = value_of m; verdict = verdict_word t }
 
 abbrev pub handle_of : ℕ → List ℕ
 handle_of b = replicate handle_size b
 
-abbrev pub result_of : State → Asked → Result
+abbrev pub result_of : State → Asked → Told
 result_of t verdict_only = record { word = word_of done; values = []; verdict = verdict_word t }
 result_of t (initialise flags l b) = initialised l (initialized_of t flags l b)
 result_of t (destroy b) = destroyed_result (destroy_of t (handle_of b) 7)
@@ -147,7 +146,7 @@ two_roots = initialised_with (link Active no_parent 0 1 7 ∷ link Active no_par
 pub record Example : Type 0 where
   pub table : State
   pub asked : Asked
-  pub expected : Result
+  pub expected : Told
 
 -- outer and inner number as a word
 abbrev pub refusal : ℕ → ℕ → ℕ
