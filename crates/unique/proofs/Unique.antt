@@ -1,6 +1,9 @@
 -- For every public function: no second result fits its contract, and no second content of a lent place. Proved once in general, and applied to each
 -- contract as the checker reads it. docs/THEOREMS.md lists the functions that are not among them. Assumes nothing.
 use mathlib.Core.Path.{◌≡◌, sym, ◌∙◌}
+use Prim.Native.Nat.{ℕ}
+use mir.Syntax.{w64}
+use mir.Val.{Fits}
 use Rattle.error.proofs.internal.Reads as error-internal-reads
 use Rattle.error.proofs.validation.Reads as error-validation-reads
 use Rattle.error.proofs.added.Reads as error-added-reads
@@ -27,9 +30,6 @@ use Rattle.context.proofs.is_active.Reads as context-is-active-reads
 use Rattle.context.proofs.is_retired.Reads as context-is-retired-reads
 use Rattle.context.proofs.same_state.Reads as context-same-state-reads
 use Rattle.context.proofs.is_normal.Reads as context-is-normal-reads
-use Rattle.table.proofs.flags.flag_is_simulation.Reads as table-flags-flag-is-simulation-reads
-use Rattle.table.proofs.flags.flag_is_default.Reads as table-flags-flag-is-default-reads
-use Rattle.table.proofs.flags.uses_target_is_default.Reads as table-flags-uses-target-is-default-reads
 use Rattle.handle.proofs.default.Reads as handle-default-reads
 use Rattle.handle.proofs.new_invalid.Reads as handle-new-invalid-reads
 use Rattle.handle.proofs.equals.Reads as handle-equals-reads
@@ -38,21 +38,12 @@ use Rattle.table.proofs.state.State.new.Reads as table-state-state-new-reads
 use Rattle.table.proofs.state.with_context.Reads as table-state-with-context-reads
 use Rattle.table.proofs.state.with_initialized.Reads as table-state-with-initialized-reads
 use Rattle.table.proofs.state.refused.Reads as table-state-refused-reads
-use Rattle.table.proofs.state.count_contexts.Reads as table-state-count-contexts-reads
-use Rattle.table.proofs.state.get_next_inactive_context_pos.Reads as table-state-get-next-inactive-context-pos-reads
-use Rattle.table.proofs.support.simulation.Reads as table-support-simulation-reads
-use Rattle.table.proofs.support.rotate_context.Reads as table-support-rotate-context-reads
-use Rattle.table.proofs.support.x509.Reads as table-support-x509-reads
-use Rattle.table.proofs.support.internal_info.Reads as table-support-internal-info-reads
-use Rattle.table.proofs.support.internal_dice.Reads as table-support-internal-dice-reads
 use Rattle.context.proofs.tci.TciNodeData.new.Reads as context-tci-tcinodedata-new-reads
 use Rattle.context.proofs.u8bool.get.Reads as context-u8bool-get-reads
 use Rattle.context.proofs.u8bool.new.Reads as context-u8bool-new-reads
 use Rattle.links.proofs.links_of.Reads as links-links-of-reads
 use Rattle.walks.proofs.descendants.descend.Reads as walks-descendants-descend-reads
 use Rattle.walks.proofs.descendants.get_descendants.Reads as walks-descendants-get-descendants-reads
-use Rattle.walks_path.proofs.byte.Reads as walks-path-byte-reads
-use Rattle.walks.proofs.why.Reads as walks-why-reads
 use Rattle.walks_path.proofs.root_to_leaf.Reads as walks-path-root-to-leaf-reads
 use Rattle.links.proofs.index.Reads as links-index-reads
 use Rattle.walks_run.proofs.run_above.Reads as walks-run-run-above-reads
@@ -62,14 +53,10 @@ use Rattle.wire.proofs.read_u64.Reads as wire-read-u64-reads
 use Rattle.wire.proofs.write_u16.Reads as wire-write-u16-reads
 use Rattle.wire.proofs.write_u32.Reads as wire-write-u32-reads
 use Rattle.wire.proofs.write_u64.Reads as wire-write-u64-reads
-use Rattle.wire.proofs.read_16.Reads as wire-read-16-reads
-use Rattle.wire.proofs.read_48.Reads as wire-read-48-reads
 use Rattle.wire.proofs.write_run.Reads as wire-write-run-reads
 use Rattle.lookup.proofs.active_in.Reads as lookup-active-in-reads
 use Rattle.lookup.proofs.get_active_context_pos.Reads as lookup-get-active-context-pos-reads
-use Rattle.lookup.proofs.why.Reads as lookup-why-reads
 use Rattle.candidates.proofs.candidate_at.Reads as candidates-candidate-at-reads
-use Rattle.candidates.proofs.untaken.Reads as candidates-untaken-reads
 use Rattle.candidates.proofs.generate_new_handle.Reads as candidates-generate-new-handle-reads
 use Rattle.initialize_context.proofs.not_supported.Reads as initialize-context-not-supported-reads
 use Rattle.initialize_context.proofs.both_or_neither.Reads as initialize-context-both-or-neither-reads
@@ -79,13 +66,10 @@ use Rattle.rotate_context.proofs.rotate_context.Reads as rotate-context-rotate-c
 use Rattle.image_context.proofs.state_of.Reads as image-context-state-of-reads
 use Rattle.image_context.proofs.type_of.Reads as image-context-type-of-reads
 use Rattle.image_context.proofs.read_context.Reads as image-context-read-context-reads
-use Rattle.image_context.proofs.blank.Reads as image-context-blank-reads
 use Rattle.image_kinds.proofs.answer_at.Reads as image-kinds-answer-at-reads
 use Rattle.image_kinds.proofs.kind_at.Reads as image-kinds-kind-at-reads
 use Rattle.image_kinds.proofs.are_good_kinds.Reads as image-kinds-are-good-kinds-reads
 use Rattle.image_write.proofs.write_context.Reads as image-write-write-context-reads
-use Rattle.image_write.proofs.state_byte.Reads as image-write-state-byte-reads
-use Rattle.image_write.proofs.type_byte.Reads as image-write-type-byte-reads
 use Rattle.image.proofs.state.readable.Reads as image-state-readable-reads
 use Rattle.image.proofs.state.is_readable.Reads as image-state-is-readable-reads
 use Rattle.image_table.proofs.read_state.Reads as image-table-read-state-reads
@@ -99,34 +83,12 @@ use Rattle.validation_localities.proofs.localities_test.Reads as validation-loca
 use Rattle.validation_slots.proofs.context_test.Reads as validation-slots-context-test-reads
 use Rattle.validation_slots.proofs.slots_test.Reads as validation-slots-slots-test-reads
 use Rattle.validation_trees.proofs.trees_test.Reads as validation-trees-trees-test-reads
-use Rattle.clearing.proofs.cleared.Reads as clearing-cleared-reads
 use Rattle.destroy_context.proofs.destroy_slot.Reads as destroy-context-destroy-slot-reads
 use Rattle.destroy_context.proofs.destroy_context.Reads as destroy-context-destroy-context-reads
 use Rattle.view.proofs.fields_at.Reads as view-fields-at-reads
-use Rattle.peek.proofs.slot.active_in.Reads as peek-slot-active-in-reads
-use Rattle.peek.proofs.slot.handle_at.Reads as peek-slot-handle-at-reads
-use Rattle.peek.proofs.slot.children_at.Reads as peek-slot-children-at-reads
-use Rattle.peek.proofs.slot.parent_at.Reads as peek-slot-parent-at-reads
-use Rattle.peek.proofs.slot.is_live.Reads as peek-slot-is-live-reads
-use Rattle.peek.proofs.slot.is_retired.Reads as peek-slot-is-retired-reads
-use Rattle.peek.proofs.slot.context_at.Reads as peek-slot-context-at-reads
-use Rattle.peek.proofs.find.get_active_context_pos.Reads as peek-find-get-active-context-pos-reads
-use Rattle.peek.proofs.find.count_contexts.Reads as peek-find-count-contexts-reads
-use Rattle.peek.proofs.find.get_next_inactive_context_pos.Reads as peek-find-get-next-inactive-context-pos-reads
-use Rattle.peek.proofs.choose.generate_new_handle.Reads as peek-choose-generate-new-handle-reads
-use Rattle.peek_walks.proofs.down.descend.Reads as peek-down-descend-reads
-use Rattle.peek_walks.proofs.down.get_descendants.Reads as peek-down-get-descendants-reads
-use Rattle.peek_walks.proofs.path.root_to_leaf.Reads as peek-path-root-to-leaf-reads
-use Rattle.peek_walks.proofs.up.run_above.Reads as peek-up-run-above-reads
 use Rattle.peek_validate.proofs.validate_image.Reads as peek-validate-validate-image-reads
-use Rattle.place_initialize.proofs.initialize_context.Reads as place-initialize-initialize-context-reads
-use Rattle.place_rotate.proofs.rotate_context.Reads as place-rotate-rotate-context-reads
-use Rattle.place_destroy.proofs.destroy_context.Reads as place-destroy-destroy-context-reads
 use Rattle.tell.proofs.refused.Reads as tell-refused-reads
-use Rattle.tell.proofs.unread.Reads as tell-unread-reads
 use Rattle.tell.proofs.number.Reads as tell-number-reads
-use Rattle.tell.proofs.marks.Reads as tell-marks-reads
-use Rattle.tell.proofs.new_handle.Reads as tell-new-handle-reads
 use Rattle.duottarok.proofs.dpe_validate.Reads as dpe-validate-reads
 use Rattle.duottarok.proofs.dpe_lookup.Reads as dpe-lookup-reads
 use Rattle.duottarok.proofs.dpe_initialize_context.Reads as dpe-initialize-context-reads
@@ -135,10 +97,21 @@ use Rattle.duottarok.proofs.dpe_destroy_context.Reads as dpe-destroy-context-rea
 use Rattle.duottarok.proofs.dpe_descendants.Reads as dpe-descendants-reads
 use Rattle.duottarok.proofs.dpe_path.Reads as dpe-path-reads
 use Rattle.duottarok.proofs.dpe_count.Reads as dpe-count-reads
+use Rattle.image_write.proofs.state_byte.Reads as image-write-state-byte-reads
+use Rattle.image_write.proofs.type_byte.Reads as image-write-type-byte-reads
 use Rattle.text_row.proofs.put_number.Reads as text-row-put-number-reads
 use Rattle.text_row.proofs.put_verdict.Reads as text-row-put-verdict-reads
 use Rattle.text_row.proofs.put_row.Reads as text-row-put-row-reads
 use Rattle.text.proofs.list.Reads as text-list-reads
+use Rattle.wire.proofs.read_array.Reads as wire-read-array-reads
+use Rattle.table.proofs.flags.has_bit.Reads as table-flags-has-bit-reads
+use Rattle.lookup.proofs.find.count_contexts.Reads as lookup-find-count-contexts-reads
+use Rattle.lookup.proofs.find.get_next_inactive_context_pos.Reads as lookup-find-get-next-inactive-context-pos-reads
+use Rattle.initialize_context.proofs.initialize_on.Reads as initialize-context-initialize-on-reads
+use Rattle.rotate_context.proofs.rotate_on.Reads as rotate-context-rotate-on-reads
+use Rattle.destroy_context.proofs.destroy_slot_on.Reads as destroy-context-destroy-slot-on-reads
+use Rattle.destroy_context.proofs.destroy_on.Reads as destroy-context-destroy-on-reads
+use Rattle.tell.proofs.found.Reads as tell-found-reads
 
 -- two results that are both what a definition says are one
 one : {A : Type 0} {d r r' : A} → r ≡ d → r' ≡ d → r ≡ r'
@@ -226,15 +199,6 @@ context-same_state κ a r r' s s' = one
 pub context-is_normal : OneResult context-is-normal-reads.Post
 context-is_normal κ a r r' s s' = one
 
-pub table-flags-flag_is_simulation : OneResult table-flags-flag-is-simulation-reads.Post
-table-flags-flag_is_simulation κ a r r' s s' = one
-
-pub table-flags-flag_is_default : OneResult table-flags-flag-is-default-reads.Post
-table-flags-flag_is_default κ a r r' s s' = one
-
-pub table-flags-uses_target_is_default : OneResult table-flags-uses-target-is-default-reads.Post
-table-flags-uses_target_is_default κ a r r' s s' = one
-
 pub handle-default : OneResult handle-default-reads.Post
 handle-default κ a r r' s s' = one
 
@@ -256,29 +220,8 @@ table-state-with_context κ a r r' s s' = one
 pub table-state-with_initialized : OneResult table-state-with-initialized-reads.Post
 table-state-with_initialized κ a r r' s s' = one
 
-pub table-state-refused : OneResult table-state-refused-reads.Post
-table-state-refused κ a r r' s s' = one
-
-pub table-state-count_contexts : OneResult table-state-count-contexts-reads.Post
-table-state-count_contexts κ a r r' s s' = one
-
-pub table-state-get_next_inactive_context_pos : OneResult table-state-get-next-inactive-context-pos-reads.Post
-table-state-get_next_inactive_context_pos κ a r r' s s' = one
-
-pub table-support-simulation : OneResult table-support-simulation-reads.Post
-table-support-simulation κ a r r' s s' = one
-
-pub table-support-rotate_context : OneResult table-support-rotate-context-reads.Post
-table-support-rotate_context κ a r r' s s' = one
-
-pub table-support-x509 : OneResult table-support-x509-reads.Post
-table-support-x509 κ a r r' s s' = one
-
-pub table-support-internal_info : OneResult table-support-internal-info-reads.Post
-table-support-internal_info κ a r r' s s' = one
-
-pub table-support-internal_dice : OneResult table-support-internal-dice-reads.Post
-table-support-internal_dice κ a r r' s s' = one
+pub table-state-refused : (T : _) (l : _) → OneResult (table-state-refused-reads.Post T l)
+table-state-refused T l κ a r r' s s' = one
 
 pub context-tci-tcinodedata-new : OneResult context-tci-tcinodedata-new-reads.Post
 context-tci-tcinodedata-new κ a r r' s s' = one
@@ -292,26 +235,20 @@ context-u8bool-new κ a r r' s s' = one
 pub links-links_of : OneResult links-links-of-reads.Post
 links-links_of κ a r r' s s' = one
 
-pub walks-descendants-descend : OneResult walks-descendants-descend-reads.Post
-walks-descendants-descend κ a r r' s s' = one
+pub walks-descendants-descend : (T : _) (l : _) (t : _) (d : _) → OneResult (walks-descendants-descend-reads.Post T l t d)
+walks-descendants-descend T l t d κ a r r' s s' = one
 
-pub walks-descendants-get_descendants : OneResult walks-descendants-get-descendants-reads.Post
-walks-descendants-get_descendants κ a r r' s s' = one
+pub walks-descendants-get_descendants : (T : _) (l : _) (t : _) (d : _) → OneResult (walks-descendants-get-descendants-reads.Post T l t d)
+walks-descendants-get_descendants T l t d κ a r r' s s' = one
 
-pub walks_path-byte : OneResult walks-path-byte-reads.Post
-walks_path-byte κ a r r' s s' = one
-
-pub walks-why : OneResult walks-why-reads.Post
-walks-why κ a r r' s s' = one
-
-pub walks_path-root_to_leaf : OneResult walks-path-root-to-leaf-reads.Post
-walks_path-root_to_leaf κ a r r' s s' = one
+pub walks_path-root_to_leaf : (T : _) (l : _) (t : _) (d : _) → OneResult (walks-path-root-to-leaf-reads.Post T l t d)
+walks_path-root_to_leaf T l t d κ a r r' s s' = one
 
 pub links-index : OneResult links-index-reads.Post
 links-index κ a r r' s s' = one
 
-pub walks_run-run_above : OneResult walks-run-run-above-reads.Post
-walks_run-run_above κ a r r' s s' = one
+pub walks_run-run_above : (T : _) (l : _) (t : _) (d : _) → OneResult (walks-run-run-above-reads.Post T l t d)
+walks_run-run_above T l t d κ a r r' s s' = one
 
 pub wire-read_u16 : OneResult wire-read-u16-reads.Post
 wire-read_u16 κ a r r' s s' = one
@@ -331,32 +268,20 @@ wire-write_u32 κ a r r' s s' p q = one p q
 pub wire-write_u64 : (κ : _) (a : _) (r r' : _) (s s' : _) → wire-write-u64-reads.Post κ a r s → wire-write-u64-reads.Post κ a r' s' → (s.0.now ≡ s'.0.now)
 wire-write_u64 κ a r r' s s' p q = one p q
 
-pub wire-read_16 : OneResult wire-read-16-reads.Post
-wire-read_16 κ a r r' s s' = one
-
-pub wire-read_48 : OneResult wire-read-48-reads.Post
-wire-read_48 κ a r r' s s' = one
-
 pub wire-write_run : (κ : _) (a : _) (r r' : _) (s s' : _) → wire-write-run-reads.Post κ a r s → wire-write-run-reads.Post κ a r' s' → (s.0.now ≡ s'.0.now)
 wire-write_run κ a r r' s s' p q = one p q
 
-pub lookup-active_in : OneResult lookup-active-in-reads.Post
-lookup-active_in κ a r r' s s' = one
+pub lookup-active_in : (T : _) (l : _) (t : _) (d : _) → OneResult (lookup-active-in-reads.Post T l t d)
+lookup-active_in T l t d κ a r r' s s' = one
 
-pub lookup-get_active_context_pos : OneResult lookup-get-active-context-pos-reads.Post
-lookup-get_active_context_pos κ a r r' s s' = one
-
-pub lookup-why : OneResult lookup-why-reads.Post
-lookup-why κ a r r' s s' = one
+pub lookup-get_active_context_pos : (T : _) (l : _) (t : _) (d : _) → OneResult (lookup-get-active-context-pos-reads.Post T l t d)
+lookup-get_active_context_pos T l t d κ a r r' s s' = one
 
 pub candidates-candidate_at : OneResult candidates-candidate-at-reads.Post
 candidates-candidate_at κ a r r' s s' = one
 
-pub candidates-untaken : OneResult candidates-untaken-reads.Post
-candidates-untaken κ a r r' s s' = one
-
-pub candidates-generate_new_handle : OneResult candidates-generate-new-handle-reads.Post
-candidates-generate_new_handle κ a r r' s s' = one
+pub candidates-generate_new_handle : (T : _) (l : _) (t : _) (d : _) → OneResult (candidates-generate-new-handle-reads.Post T l t d)
+candidates-generate_new_handle T l t d κ a r r' s s' = one
 
 pub initialize_context-not_supported : OneResult initialize-context-not-supported-reads.Post
 initialize_context-not_supported κ a r r' s s' = one
@@ -381,9 +306,6 @@ image_context-type_of κ a r r' s s' = one
 
 pub image_context-read_context : OneResult image-context-read-context-reads.Post
 image_context-read_context κ a r r' s s' = one
-
-pub image_context-blank : OneResult image-context-blank-reads.Post
-image_context-blank κ a r r' s s' = one
 
 pub image_kinds-answer_at : OneResult image-kinds-answer-at-reads.Post
 image_kinds-answer_at κ a r r' s s' = one
@@ -436,9 +358,6 @@ validation_slots-slots_test κ a r r' s s' = one
 pub validation_trees-trees_test : OneResult validation-trees-trees-test-reads.Post
 validation_trees-trees_test κ a r r' s s' = one
 
-pub clearing-cleared : OneResult clearing-cleared-reads.Post
-clearing-cleared κ a r r' s s' = one
-
 pub destroy_context-destroy_slot : OneResult destroy-context-destroy-slot-reads.Post
 destroy_context-destroy_slot κ a r r' s s' = one
 
@@ -448,77 +367,14 @@ destroy_context-destroy_context κ a r r' s s' = one
 pub view-fields_at : OneResult view-fields-at-reads.Post
 view-fields_at κ a r r' s s' = one
 
-pub peek-slot-active_in : OneResult peek-slot-active-in-reads.Post
-peek-slot-active_in κ a r r' s s' = one
-
-pub peek-slot-handle_at : OneResult peek-slot-handle-at-reads.Post
-peek-slot-handle_at κ a r r' s s' = one
-
-pub peek-slot-children_at : OneResult peek-slot-children-at-reads.Post
-peek-slot-children_at κ a r r' s s' = one
-
-pub peek-slot-parent_at : OneResult peek-slot-parent-at-reads.Post
-peek-slot-parent_at κ a r r' s s' = one
-
-pub peek-slot-is_live : OneResult peek-slot-is-live-reads.Post
-peek-slot-is_live κ a r r' s s' = one
-
-pub peek-slot-is_retired : OneResult peek-slot-is-retired-reads.Post
-peek-slot-is_retired κ a r r' s s' = one
-
-pub peek-slot-context_at : OneResult peek-slot-context-at-reads.Post
-peek-slot-context_at κ a r r' s s' = one
-
-pub peek-find-get_active_context_pos : OneResult peek-find-get-active-context-pos-reads.Post
-peek-find-get_active_context_pos κ a r r' s s' = one
-
-pub peek-find-count_contexts : OneResult peek-find-count-contexts-reads.Post
-peek-find-count_contexts κ a r r' s s' = one
-
-pub peek-find-get_next_inactive_context_pos : OneResult peek-find-get-next-inactive-context-pos-reads.Post
-peek-find-get_next_inactive_context_pos κ a r r' s s' = one
-
-pub peek-choose-generate_new_handle : OneResult peek-choose-generate-new-handle-reads.Post
-peek-choose-generate_new_handle κ a r r' s s' = one
-
-pub peek-down-descend : OneResult peek-down-descend-reads.Post
-peek-down-descend κ a r r' s s' = one
-
-pub peek-down-get_descendants : OneResult peek-down-get-descendants-reads.Post
-peek-down-get_descendants κ a r r' s s' = one
-
-pub peek-path-root_to_leaf : (κ : _) (a : _) (r r' : _) (s s' : _) → peek-path-root-to-leaf-reads.Post κ a r s → peek-path-root-to-leaf-reads.Post κ a r' s' → (r ≡ r') × (s.1.1.0.now ≡ s'.1.1.0.now)
-peek-path-root_to_leaf κ a r r' s s' p q = (one p.0 q.0, one p.1 q.1)
-
-pub peek-up-run_above : OneResult peek-up-run-above-reads.Post
-peek-up-run_above κ a r r' s s' = one
-
 pub peek_validate-validate_image : OneResult peek-validate-validate-image-reads.Post
 peek_validate-validate_image κ a r r' s s' = one
-
-pub place_initialize-initialize_context : (κ : _) (a : _) (r r' : _) (s s' : _) → place-initialize-initialize-context-reads.Post κ a r s → place-initialize-initialize-context-reads.Post κ a r' s' → (r ≡ r') × (s.0.now ≡ s'.0.now)
-place_initialize-initialize_context κ a r r' s s' p q = (one p.0 q.0, one p.1 q.1)
-
-pub place_rotate-rotate_context : (κ : _) (a : _) (r r' : _) (s s' : _) → place-rotate-rotate-context-reads.Post κ a r s → place-rotate-rotate-context-reads.Post κ a r' s' → (r ≡ r') × (s.0.now ≡ s'.0.now)
-place_rotate-rotate_context κ a r r' s s' p q = (one p.0 q.0, one p.1 q.1)
-
-pub place_destroy-destroy_context : (κ : _) (a : _) (r r' : _) (s s' : _) → place-destroy-destroy-context-reads.Post κ a r s → place-destroy-destroy-context-reads.Post κ a r' s' → (r ≡ r') × (s.0.now ≡ s'.0.now)
-place_destroy-destroy_context κ a r r' s s' p q = (one p.0 q.0, one p.1 q.1)
 
 pub tell-refused : OneResult tell-refused-reads.Post
 tell-refused κ a r r' s s' = one
 
-pub tell-unread : OneResult tell-unread-reads.Post
-tell-unread κ a r r' s s' = one
-
 pub tell-number : (κ : _) (a : _) (r r' : _) (s s' : _) → tell-number-reads.Post κ a r s → tell-number-reads.Post κ a r' s' → (r ≡ r') × (s.1.0.now ≡ s'.1.0.now)
 tell-number κ a r r' s s' p q = (one p.0 q.0, one p.1 q.1)
-
-pub tell-marks : (κ : _) (a : _) (r r' : _) (s s' : _) → tell-marks-reads.Post κ a r s → tell-marks-reads.Post κ a r' s' → (r ≡ r') × (s.1.0.now ≡ s'.1.0.now)
-tell-marks κ a r r' s s' p q = (one p.0 q.0, one p.1 q.1)
-
-pub tell-new_handle : (κ : _) (a : _) (r r' : _) (s s' : _) → tell-new-handle-reads.Post κ a r s → tell-new-handle-reads.Post κ a r' s' → (r ≡ r') × (s.1.0.now ≡ s'.1.0.now)
-tell-new_handle κ a r r' s s' p q = (one p.0 q.0, one p.1 q.1)
 
 pub dpe_validate : OneResult dpe-validate-reads.Post
 dpe_validate κ a r r' s s' = one
@@ -561,3 +417,29 @@ text_row-put_row κ a r r' s s' p q = (one p.0.place q.0.place, one p.0.bytes q.
 
 pub text-list : (κ : _) (a : _) (r r' : _) (s s' : _) → text-list-reads.Post κ a r s → text-list-reads.Post κ a r' s' → (r ≡ r') × (s.1.0.now ≡ s'.1.0.now)
 text-list κ a r r' s s' p q = (one p.0 q.0, one p.1.0 q.1.0)
+
+pub wire-read_array : (n : ℕ) (f : Fits w64 n) → OneResult (wire-read-array-reads.Post n f)
+wire-read_array n f κ a r r' s s' = one
+
+pub table-flags-has_bit : OneResult table-flags-has-bit-reads.Post
+table-flags-has_bit κ a r r' s s' = one
+
+pub lookup-find-count_contexts : (T : _) (l : _) (t : _) (d : _) → OneResult (lookup-find-count-contexts-reads.Post T l t d)
+lookup-find-count_contexts T l t d κ a r r' s s' = one
+
+pub lookup-find-get_next_inactive_context_pos : (T : _) (l : _) (t : _) (d : _) → OneResult (lookup-find-get-next-inactive-context-pos-reads.Post T l t d)
+lookup-find-get_next_inactive_context_pos T l t d κ a r r' s s' = one
+
+pub initialize_context-initialize_on : (T : _) (l : _) (m : _) (dm : _) (t : _) (d : _) → OneResult (initialize-context-initialize-on-reads.Post T l m dm t d)
+initialize_context-initialize_on T l m dm t d κ a r r' s s' p q = one p.answers q.answers
+
+pub rotate_context-rotate_on : (T : _) (l : _) (m : _) (dm : _) (t : _) (d : _) → OneResult (rotate-context-rotate-on-reads.Post T l m dm t d)
+rotate_context-rotate_on T l m dm t d κ a r r' s s' p q = one p.answers q.answers
+
+pub destroy_context-destroy_slot_on : (T : _) (l : _) (m : _) (dm : _) (t : _) (d : _) → OneResult (destroy-context-destroy-slot-on-reads.Post T l m dm t d)
+destroy_context-destroy_slot_on T l m dm t d κ a r r' s s' p q = one p.answers q.answers
+
+pub destroy_context-destroy_on : (T : _) (l : _) (m : _) (dm : _) (t : _) (d : _) → OneResult (destroy-context-destroy-on-reads.Post T l m dm t d)
+destroy_context-destroy_on T l m dm t d κ a r r' s s' p q = one p.answers q.answers
+
+-- TODO tell-found <T: Copy>
