@@ -47,8 +47,8 @@ pub fn kind_at(image: &[u8], at: usize) -> u32
     requires { at + context_size ≤ length image.now }
     ensures { result ≡ kind_word (part at context_size image.now) }
 {
-    let context_type = image[at + CONTEXT_TYPE_AT] as u32;
-    let state = image[at + STATE_AT] as u32;
+    let context_type = u32::from(image[at + CONTEXT_TYPE_AT]);
+    let state = u32::from(image[at + STATE_AT]);
     context_type + 256 * state + 256
 }
 
