@@ -41,9 +41,7 @@ pub fn add_child(m: u64, k: usize) -> Result<u64, DpeErrorCode>
     ensures { result ≡ add_child_of slot_count m k }
 {
     if k >= MAX_HANDLES {
-        return Err(DpeErrorCode::InternalError(
-            InternalErrorCode::ChildrenBitmapIndexOob,
-        ));
+        return Err(DpeErrorCode::InternalError(InternalErrorCode::ChildrenBitmapIndexOob));
     }
     Ok(with(m, k))
 }
