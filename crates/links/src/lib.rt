@@ -6,9 +6,9 @@ ghost use Rattle.context.specs.Context.{slot_of};
 ghost use Rattle.links.specs.Summary.{summary_of};
 
 use children::MAX_HANDLES;
-use table::state::State;
+use slots::Slots;
 
-#[derive(Clone, Copy)]
+#[derive(Clone, Copy, Debug, PartialEq, Eq)]
 pub struct Links {
     pub children: [u64; MAX_HANDLES],
     pub parents: [u8; MAX_HANDLES],
@@ -19,8 +19,8 @@ pub struct Links {
 }
 
 // The summary of a table, in one pass.
-pub fn links_of(t: State) -> Links
-    ensures { result ≡ summary_of (slot_of t.contexts) }
+pub fn links_of<T: Slots>(t: &T) -> Links
+    ensures { result ≡ summary_of (slot_of (T.state t.now).contexts) }
 {
     let mut children = [0u64; MAX_HANDLES];
     let mut parents = [0u8; MAX_HANDLES];
@@ -28,14 +28,12 @@ pub fn links_of(t: State) -> Links
     let mut retired = children::empty();
     let mut simulations = children::empty();
     for i in 0..MAX_HANDLES {
-        let c = t.contexts[i];
-        children[i] = c.children;
-        parents[i] = c.parent_idx;
-        let s = c.state;
+        children[i] = t.children_at(i);
+        parents[i] = t.parent_at(i);
+        let s = t.state_at(i);
         live = children::with_if(!context::is_inactive(s), live, i);
         retired = children::with_if(context::is_retired(s), retired, i);
-        let k = c.context_type;
-        simulations = children::with_if(!context::is_normal(k), simulations, i);
+        simulations = children::with_if(!context::is_normal(t.context_type_at(i)), simulations, i);
     }
     Links {
         children,
