@@ -1,8 +1,7 @@
 -- A run of tests: one law for each way out of it, and what its answer says of each test. Assumes nothing.
 use Rattle.std.specs.Prelude.{Result, Ok, Err}
 use Rattle.std.specs.Result.{IsErrAnd}
-use Rattle.std.proofs.lemmas.Result.{err_from_is_err_and}
-use mathlib.Core.Path.{◌≡◌, refl, ap, ap₂, ◌∙◌}
+use mathlib.Core.Path.{◌≡◌, refl, sym, ap₂, ◌∙◌}
 use mathlib.Core.Logic.{◌≢◌, ◌↔◌}
 use mathlib.Core.Bool.{Bool, true, false, not, ◌&&◌, ◌||◌}
 use Prim.Native.Nat.{ℕ, zero, suc, ◌+◌, ◌<◌}
@@ -12,15 +11,12 @@ use native.Mathlib.Omega.{arith}
 use lib.Dec.{eqb, ltb}
 use borrow.Author.Tests.{lt-ltb, eq-eqb, ne_eqb}
 use Rattle.error.specs.declared.ValidationError.{ValidationError}
+use Rattle.error.proofs.Exits.{passed_on}
 use Rattle.children.proofs.Cases.{clash, eqb-true, ltb-true}
 use Rattle.verdict.specs.Tests.{need, first, first_below, where_of}
 
 pub fault_valid : {A : Type 0} {e : ValidationError} → ◌≡◌ {A = Result (Unit {0}) ValidationError} (Err e) (Ok tt) → A
 fault_valid q = absurd (cc)
-
--- what the exit of a `?` returns, where the error stays as it is
-pub thrown : {T E : Type 0} {r : Result T E} {e : E} → IsErrAnd r (λ y. y ≡ e) → r ≡ Err e
-thrown {r} p = let q = err_from_is_err_and r p in q.1 ∙ ap Err q.2
 
 -- ---- one law for each way out
 
@@ -65,6 +61,11 @@ below_more f k e g = rw (add-one, first_below, e, g)
 pub below_stop : (f : ℕ → Result Unit ValidationError) (k n : ℕ) (e : ValidationError) → k < n → first_below f k ≡ Ok tt → f k ≡ Err e → first_below f n ≡ Err e
 unfolding first_below first
 below_stop f k n e h p q = le_ind (λ (i : ℕ). first_below f i ≡ Err e) (rw (p, q)) (λ i l g. rw g) n h
+
+-- the exit of a `?` at the k-th test
+pub thrown_early : (f : ℕ → Result Unit ValidationError) (k n : ℕ) {r : Result Unit ValidationError} {e : ValidationError}
+    → IsErrAnd r (λ y. y ≡ e) → k < n → first_below f k ≡ Ok tt → f k ≡ Err e → r ≡ first_below f n
+thrown_early f k n p h a q = passed_on _ p ∙ sym (below_stop f k n _ h a q)
 
 pub below_same : (f g : ℕ → Result Unit ValidationError) (n : ℕ) → ((i : ℕ) → i < n → f i ≡ g i) → first_below f n ≡ first_below g n
 unfolding first_below

@@ -5,7 +5,7 @@ use native.Mathlib.Omega.{arith}
 use Rattle.children.specs.Marks.{slot_count}
 use Rattle.children.proofs.Marks.{next-after}
 use Rattle.forest.specs.Search.{each}
-use Rattle.verdict.proofs.Steps.{thrown}
+use Rattle.error.proofs.Exits.{passed_on}
 use Rattle.validation_trees.specs.Summary.{told}
 use Rattle.validation_trees.proofs.Searches.{told_seen, is_seen, each-one, each_flaw, turn_on, entered, mark_in}
 use Rattle.validation_trees.proofs.+detect_invalid_subtree.Goals as goal
@@ -20,7 +20,7 @@ returns-in_err-met t c =
     let a = c.args in
     let l = c.loop-k in
     let lt = c.loop-k-test.true in
-    thrown c.from_residual.ensures.1
+    passed_on _ c.from_residual.ensures.1
     ∙ sym (ap told (entered a.l.now a.kind a.depth a.seen a.slot _ c.requires c.if-depth-eq0.false c.has_child.ensures c.if-has_child.false c.has_child-2.ensures c.if-not-has_child.false c.has_child-3.ensures c.new.ensures c.if-new-kind.false c.with-met.ensures)
     ∙ each_flaw _ _ _ l.k slot_count l.met _ _ lt l.invariant.1 (l.invariant.2 lt) refl (sym c.detect_invalid_subtree.ensures ∙ c.in_err-met.was))
 
