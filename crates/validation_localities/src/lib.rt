@@ -11,10 +11,10 @@ ghost use Rattle.validation_localities.specs.Summary.{places_of, beside_in, crow
 
 use children::MAX_HANDLES;
 use error::ValidationError;
-use table::state::State;
+use slots::Slots;
 
 // Who is where.
-#[derive(Clone, Copy)]
+#[derive(Clone, Copy, Debug, PartialEq, Eq)]
 pub struct Places {
     pub localities: [u32; MAX_HANDLES],
     // The active contexts that are defaults, and that are not, as marks.
@@ -23,19 +23,16 @@ pub struct Places {
 }
 
 // The places of a table, in one pass.
-pub fn places_of(t: State) -> Places
-    ensures { result ≡ places_of (slot_of t.contexts) }
+pub fn places_of<T: Slots>(t: &T) -> Places
+    ensures { result ≡ places_of (slot_of (T.state t.now).contexts) }
 {
     let mut localities = [0u32; MAX_HANDLES];
     let mut defaults = children::empty();
     let mut others = children::empty();
     for i in 0..MAX_HANDLES {
-        let c = t.contexts[i];
-        localities[i] = c.locality;
-        let s = c.state;
-        let a = context::is_active(s);
-        let h = c.handle;
-        let d = handle::is_default(h);
+        localities[i] = t.locality_at(i);
+        let a = context::is_active(t.state_at(i));
+        let d = handle::is_default(t.handle_at(i));
         defaults = children::with_if(a & d, defaults, i);
         others = children::with_if(a & !d, others, i);
     }

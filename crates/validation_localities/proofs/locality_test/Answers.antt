@@ -3,7 +3,7 @@ use mathlib.Core.Path.{sym, ◌∙◌}
 use native.Mathlib.Omega.{arith}
 use Rattle.children.specs.Marks.{slot_count}
 use Rattle.verdict.specs.Tests.{locality_of}
-use Rattle.verdict.proofs.Steps.{thrown, below_more, below_stop}
+use Rattle.verdict.proofs.Steps.{below_more, thrown_early}
 use Rattle.validation_localities.proofs.Counts.{counted}
 use Rattle.validation_localities.proofs.locality_test.Goals as goal
 
@@ -14,7 +14,7 @@ returns-in_err-mix_test c =
     let l = c.loop-k in
     let lt = c.loop-k-test.true in
     let t = counted a.p.now a.l l.k l.d l.o lt l.invariant.1 l.invariant.2 c.has_child.ensures c.has_child-in-loop-k.ensures c.one_more-d.ensures c.one_more-o.ensures in
-    thrown c.from_residual.ensures.1 ∙ sym (below_stop _ l.k slot_count _ lt l.invariant.3 (sym t.2 ∙ sym c.mix_test.ensures ∙ c.in_err-mix_test.was))
+    thrown_early _ l.k slot_count c.from_residual.ensures.1 lt l.invariant.3 (sym t.2 ∙ sym c.mix_test.ensures ∙ c.in_err-mix_test.was)
 
 pub loop-k-preserved : goal.loop-k-preserved
 loop-k-preserved c =
