@@ -12,8 +12,7 @@ use children::MAX_HANDLES;
 use context::{Context, ContextState, u8bool};
 use error::ValidationError;
 use links::Links;
-use table::state::State;
-use table::support;
+use slots::Slots;
 
 // The parent of the slot i.
 #[tactic(auto, using(crate::proofs::Children::marks), unfolding(verdict::specs::Tests::parent_test, verdict::specs::Tests::where_of, verdict::specs::Tests::first, verdict::specs::Tests::need))]
@@ -25,7 +24,7 @@ fn parent_test(l: &Links, i: usize) -> Result<(), ValidationError>
     if p == context::ROOT_INDEX {
         return Ok(());
     }
-    let q = p as usize;
+    let q = usize::from(p);
     if q >= MAX_HANDLES {
         return Err(ValidationError::ParentDoesNotExist);
     }
@@ -47,7 +46,7 @@ fn child_test(l: &Links, i: usize, k: usize) -> Result<(), ValidationError>
     if !children::has_child(l.live, k) {
         return Err(ValidationError::InactiveChild);
     }
-    if l.parents[k] as usize != i {
+    if usize::from(l.parents[k]) != i {
         return Err(ValidationError::ParentChildLinksCorrupted);
     }
     Ok(())
@@ -91,8 +90,7 @@ fn active_test(c: Context, init: u8, l: &Links, i: usize) -> Result<(), Validati
     requires { i < slot_count }
     ensures { result ≡ state_of ContextState.Active slot_count init c (links_on l.now.children l.now.parents l.now.live i) }
 {
-    let k = c.context_type;
-    if context::is_normal(k) & !u8bool::get(init) {
+    if context::is_normal(c.context_type) & !u8bool::get(init) {
         return Err(ValidationError::DpeNotMarkedInitialized);
     }
     links_test(l, i)
@@ -117,8 +115,7 @@ fn state_test(c: Context, init: u8, l: &Links, i: usize) -> Result<(), Validatio
     requires { i < slot_count }
     ensures { result ≡ state_of c.state slot_count init c (links_on l.now.children l.now.parents l.now.live i) }
 {
-    let s = c.state;
-    match s {
+    match c.state {
         ContextState::Inactive => validation_fields::inactive_test(c),
         ContextState::Active => active_test(c, init, l, i),
         ContextState::Retired => retired_test(c, l, i),
@@ -139,8 +136,7 @@ pub fn context_test(
 {
     validation_fields::support_test(c, word)?;
     state_test(c, init, l, i)?;
-    let d = c.tci;
-    if c.locality != d.locality {
+    if c.locality != c.tci.locality {
         return Err(ValidationError::LocalityMismatch);
     }
     Ok(())
@@ -148,11 +144,13 @@ pub fn context_test(
 
 // Each slot of the table, upward.
 #[tactic(auto, using(verdict::proofs::Steps::below_none, verdict::proofs::Steps::below_more))]
-pub fn slots_test(t: State, l: &Links) -> Result<(), ValidationError>
-    ensures { result ≡ first_below (slot_in (header_of t) (slot_of t.contexts) l.now.children l.now.parents l.now.live) slot_count }
+pub fn slots_test<T: Slots>(t: &T, l: &Links) -> Result<(), ValidationError>
+    ensures { result ≡ first_below (slot_in (header_of (T.state t.now)) (slot_of (T.state t.now).contexts) l.now.children l.now.parents l.now.live) slot_count }
 {
+    let word = t.support();
+    let init = t.has_initialized();
     for i in 0..MAX_HANDLES {
-        context_test(t.contexts[i], t.support, t.has_initialized, l, i)?;
+        context_test(t.context_at(i), word, init, l, i)?;
     }
     Ok(())
 }

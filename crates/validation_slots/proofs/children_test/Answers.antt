@@ -6,7 +6,7 @@ use borrow.Author.Rules.{rules}
 use Rattle.children.specs.Marks.{slot_count, mark_count}
 use Rattle.children.proofs.Marks.{next-after}
 use Rattle.verdict.specs.Tests.{first_below}
-use Rattle.verdict.proofs.Steps.{thrown, below_none, below_more, below_stop}
+use Rattle.verdict.proofs.Steps.{below_none, below_more, thrown_early}
 use Rattle.validation_slots.proofs.Children.{child-slot, turn_on, none_above, some-above}
 use Rattle.validation_slots.proofs.children_test.Goals as goal
 
@@ -17,9 +17,8 @@ pub returns-in_err-child_test : goal.returns-in_err-child_test
 returns-in_err-child_test c =
     let l = c.loop-k in
     let lt = c.loop-k-test.true in
-    thrown c.from_residual.ensures.1
-    ∙ sym (below_stop _ l.k mark_count _ (omega arith) l.invariant.1
-    (child-slot slot_count _ _ _ _ l.k lt (l.invariant.2 lt) ∙ sym c.child_test.ensures ∙ c.in_err-child_test.was))
+    thrown_early _ l.k mark_count c.from_residual.ensures.1 (omega arith) l.invariant.1
+    (child-slot slot_count _ _ _ _ l.k lt (l.invariant.2 lt) ∙ sym c.child_test.ensures ∙ c.in_err-child_test.was)
 
 pub loop-k-smaller : goal.loop-k-smaller
 loop-k-smaller c =

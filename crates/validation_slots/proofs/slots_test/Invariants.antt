@@ -8,5 +8,5 @@ use Rattle.validation_slots.specs.Summary.{slot_in}
 use Rattle.validation_slots.proofs.slots_test.Given as goal
 
 abbrev pub invariant-loop-i : goal.invariant-loop-i
-invariant-loop-i v =
-    (v.i ≤ slot_count) × (first_below (slot_in (header_of v.t) (slot_of v.t.contexts) v.l.children v.l.parents v.l.live) v.i ≡ Ok tt)
+invariant-loop-i g v =
+    (v.i ≤ slot_count) × (first_below (slot_in (header_of (g.T.Slots.state v.t)) (slot_of (g.T.Slots.state v.t).contexts) v.l.children v.l.parents v.l.live) v.i ≡ Ok tt)
