@@ -27,7 +27,7 @@ use Rattle.image.proofs.RoundTrip.{state_again, write_read}
 use Rattle.verdict.specs.Tests.{verdict_of, outcome_of}
 use Rattle.view.specs.declared.SlotFields.{SlotFields}
 use Rattle.view.specs.View.{fields_of}
-use Rattle.peek_validate.specs.Validate.{validate_at}
+use Rattle.validation.specs.Validate.{validate_at}
 use Rattle.text_row.specs.Row.{verdict_line, row_of, PutAt}
 use Rattle.text_row.proofs.Row.{put-size}
 use Rattle.text.specs.Text.{line_of, rows_to, lines_for, text_of, listing_of}

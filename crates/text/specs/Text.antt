@@ -8,7 +8,7 @@ use Rattle.context.specs.Context.{slot_of, is_inactive}
 use Rattle.image.specs.State.{decode_state}
 use Rattle.view.specs.declared.SlotFields.{SlotFields}
 use Rattle.view.specs.View.{fields_of}
-use Rattle.peek_validate.specs.Validate.{validate_at}
+use Rattle.validation.specs.Validate.{validate_at}
 use Rattle.text_row.specs.Row.{verdict_line, row_of}
 
 -- ---- lines

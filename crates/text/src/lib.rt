@@ -50,7 +50,7 @@ pub fn list(image: &[u8], out: &mut [u8; LISTING_SIZE]) -> usize
     ensures out_after { out.new ≡ put 0 (listing_of image.now) out.old }
     ensures prefix_len { IsPrefixLen result out.new }
 {
-    match peek_validate::validate_image(image) {
+    match validation::validate_image(image) {
         Ok(()) => {
             let a = text_row::put_verdict(out, 0, 0);
             put_rows(image, out, a)

@@ -8,4 +8,3 @@ pub mod Yes
 pub mod Parts
 pub mod Refusals
 pub mod Examples
-pub mod Exits

@@ -1,8 +1,7 @@
 -- What validating an image answers. Assumes nothing: these are definitions.
+use Rattle.std.specs.Prelude.{List, ℕ, Result}
 use Rattle.std.specs.Result.{result_and}
 use Rattle.error.specs.declared.DpeErrorCode.{DpeErrorCode}
-use Rattle.std.specs.Prelude.{List, ℕ, Result}
-use Rattle.image_kinds.specs.Kinds.{first}
 use Rattle.image.specs.State.{decode_state, readable_of}
 use Rattle.verdict.specs.Tests.{verdict_of, outcome_of}
 

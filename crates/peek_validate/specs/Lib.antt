@@ -1,2 +1,0 @@
--- What the contracts of peek_validate, and of the crates above it, cite.
-pub mod Validate

@@ -1,0 +1,2 @@
+-- What the contracts of validation, and of the crates above it, cite.
+pub mod Validate
