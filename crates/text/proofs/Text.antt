@@ -17,12 +17,11 @@ use Rattle.wire.proofs.Put.{put-nil}
 use Rattle.context.specs.declared.Context.{Context}
 use Rattle.table.specs.declared.state.State.{State}
 use Rattle.context.specs.Context.{slot_of, is_inactive}
-use Rattle.image.specs.declared.state.StateRead.{StateRead}
-use Rattle.image_kinds.specs.Kinds.{first}
+use Rattle.std.specs.Result.{result_and}
 use Rattle.image.specs.Fits.{Fits}
 use Rattle.image.specs.State.{state_size, decode_state, readable_of, encode_state}
 use Rattle.image_kinds.proofs.Answers.{first_done}
-use Rattle.image.proofs.Reading.{readable-size, read_answer}
+use Rattle.image.proofs.Reading.{readable-size, read_tells}
 use Rattle.image.proofs.RoundTrip.{state_again, write_read}
 use Rattle.verdict.specs.Tests.{verdict_of, outcome_of}
 use Rattle.view.specs.declared.SlotFields.{SlotFields}
@@ -86,7 +85,7 @@ pub listing-written : (t : State) → Fits t → listing_of (encode_state t) ≡
 unfolding listing_of
 listing-written t f =
     let l : List ℕ = encode_state t in
-    let r : readable_of l ≡ done = sym (read_answer l) ∙ ap (λ (x : StateRead). x.answer) (write_read t f) in
+    let r : readable_of l ≡ done = (read_tells l t (write_read t f)).0 in
     let v : validate_at l ≡ outcome_of (verdict_of t)
-    = ap (λ (x : Result Unit DpeErrorCode). first x (outcome_of (verdict_of (decode_state l)))) r ∙ ap (λ (x : State). outcome_of (verdict_of x)) (state_again t f) in
+    = ap (λ (x : Result (Unit {0}) DpeErrorCode). result_and x (outcome_of (verdict_of (decode_state l)))) r ∙ ap (λ (x : State). outcome_of (verdict_of x)) (state_again t f) in
     ap (λ (x : Result Unit DpeErrorCode). text_of x (slot_of (decode_state l).contexts)) v ∙ ap (λ (x : State). text_of (outcome_of (verdict_of t)) (slot_of x.contexts)) (state_again t f)

@@ -8,20 +8,20 @@ use Rattle.text.proofs.list.Goals as goal
 pub put_rows-requires : goal.put_rows-requires
 put_rows-requires c =
     let p = c.put_verdict-a.ensures in
-    (yes-size _ (sym c.validate_image.ensures ∙ c.in-Done.is), omega (arith, p.upper_bound))
+    (yes-size _ (sym c.validate_image.ensures ∙ c.in-Ok.is), omega (arith, p.upper_bound))
 
-pub returns-in-Done : goal.returns-in-Done
-returns-in-Done c =
+pub returns-in-Ok : goal.returns-in-Ok
+returns-in-Ok c =
     let p = c.put_verdict-a.ensures in
     let r = c.put_rows.ensures in
-    let e = listing_yes c.args.image.now (sym c.validate_image.ensures ∙ c.in-Done.is) in
+    let e = listing_yes c.args.image.now (sym c.validate_image.ensures ∙ c.in-Ok.is) in
     let w = put_whole (rw e at (put-more p.put_at r.put_at (omega (arith, p.upper_bound, r.upper_bound)))) (omega (arith, p.upper_bound, r.upper_bound)) in
     record { value = w.0; out_after = w.1.0; prefix_len = w.1.1 }
 
-pub returns-in-Refused : goal.returns-in-Refused
-returns-in-Refused c =
+pub returns-in-Err : goal.returns-in-Err
+returns-in-Err c =
     let p = c.put_verdict.ensures in
-    let q = sym c.validate_image.ensures ∙ c.in-Refused.is in
+    let q = sym c.validate_image.ensures ∙ c.in-Err.is in
     let e = listing_refused c.args.image.now _ q c.outer.ensures c.inner.ensures in
     let w = put_whole (rw e at p.put_at) (omega (arith, p.upper_bound)) in
     record { value = w.0; out_after = w.1.0; prefix_len = w.1.1 }
