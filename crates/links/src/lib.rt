@@ -1,4 +1,4 @@
-// Who is below whom, in a few words: the summary of a table that the walks and the validator run over. Added; the Rust has none.
+// Who is below whom, in a few words: the summary of a table that the validator runs over. Added; the Rust has none.
 #![tactic(auto)]
 
 ghost use Rattle.std.specs.Prelude.{◌≡◌};
