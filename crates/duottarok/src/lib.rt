@@ -95,7 +95,10 @@ pub fn dpe_rotate_context(
     ensures image_after { image.new ≡ image_after (rotate_at image.old handle.now locality flags candidates.now) image.old }
     ensures new_handle_after { new_handle.new ≡ result_unwrap_or (rotate_at image.old handle.now locality flags candidates.now).answer new_handle.old }
 {
-    tell::found(rotated(image, *handle, locality, flags, candidates), new_handle)
+    tell::found(
+        rotated(image, *handle, locality, flags, candidates),
+        new_handle,
+    )
 }
 
 fn destroyed(

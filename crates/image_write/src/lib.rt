@@ -8,7 +8,11 @@ ghost use Rattle.image_context.specs.Context.{state_byte, type_byte, encode_tci,
 
 use context::tci::TciNodeData;
 use context::{Context, ContextState, ContextType};
-use image_context::{ALLOW_EXPORT_CDI_AT, ALLOW_RECURSIVE_AT, ALLOW_X509_AT, CHILDREN_AT, HANDLE_AT, INTERNAL_DICE_AT, INTERNAL_INFO_AT, LOCALITY_AT, PARENT_IDX_AT, SVN_AT, TCI_CUMULATIVE_AT, TCI_CURRENT_AT, TCI_LOCALITY_AT, TCI_TYPE_AT, };
+use image_context::{
+    ALLOW_EXPORT_CDI_AT, ALLOW_RECURSIVE_AT, ALLOW_X509_AT, CHILDREN_AT, HANDLE_AT,
+    INTERNAL_DICE_AT, INTERNAL_INFO_AT, LOCALITY_AT, PARENT_IDX_AT, SVN_AT, TCI_CUMULATIVE_AT,
+    TCI_CURRENT_AT, TCI_LOCALITY_AT, TCI_TYPE_AT,
+};
 use image_kinds::{CONTEXT_TYPE_AT, STATE_AT};
 
 // The byte of a state.

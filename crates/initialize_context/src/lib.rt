@@ -18,7 +18,8 @@ pub fn not_supported(support: u32, has_initialized: u8, flags: u32) -> bool
     ensures { result ≡ not_supported support has_initialized flags }
 {
     let again = flags::has_bit(flags, flags::INIT_DEFAULT_BIT) & u8bool::get(has_initialized);
-    let unsupported = flags::has_bit(flags, flags::INIT_SIMULATION_BIT) & !flags::has_bit(support, support::SIMULATION_BIT);
+    let unsupported = flags::has_bit(flags, flags::INIT_SIMULATION_BIT)
+        & !flags::has_bit(support, support::SIMULATION_BIT);
     again | unsupported
 }
 
@@ -26,7 +27,8 @@ pub fn not_supported(support: u32, has_initialized: u8, flags: u32) -> bool
 pub fn both_or_neither(flags: u32) -> bool
     ensures { result ≡ both_or_neither flags }
 {
-    !(flags::has_bit(flags, flags::INIT_DEFAULT_BIT) ^ flags::has_bit(flags, flags::INIT_SIMULATION_BIT))
+    !(flags::has_bit(flags, flags::INIT_DEFAULT_BIT)
+        ^ flags::has_bit(flags, flags::INIT_SIMULATION_BIT))
 }
 
 // A new context with no parent.

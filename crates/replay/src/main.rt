@@ -88,7 +88,7 @@ fn change(image: &mut [u8], changes: &[u8]) {
 }
 
 // The answer of a call on the image, which a refusal and half of the calls leave as it was.
-fn answer(call: Call, image: &mut [u8], h: &[u8], candidates: &[u8]) -> Answer
+fn called(call: Call, image: &mut [u8], h: &[u8], candidates: &[u8]) -> Answer
     requires { 104 ≤ length h.now }
 {
     let locality = wire::read_u32(h, 8);
@@ -139,7 +139,7 @@ fn run(h: &[u8], before: &[u8], after: &[u8], candidates: &[u8]) -> bool
     change(&mut image, before);
     let mut expected = image;
     change(&mut expected, after);
-    let a = answer(Call::from(h[0]), &mut image, h, candidates);
+    let a = called(Call::from(h[0]), &mut image, h, candidates);
     agrees(a, h) & (image == expected)
 }
 

@@ -86,7 +86,6 @@ use Rattle.validation_trees.proofs.trees_test.Reads as validation-trees-trees-te
 use Rattle.destroy_context.proofs.destroy_slot.Reads as destroy-context-destroy-slot-reads
 use Rattle.destroy_context.proofs.destroy_context.Reads as destroy-context-destroy-context-reads
 use Rattle.view.proofs.fields_at.Reads as view-fields-at-reads
-use Rattle.peek_validate.proofs.validate_image.Reads as peek-validate-validate-image-reads
 use Rattle.tell.proofs.refused.Reads as tell-refused-reads
 use Rattle.tell.proofs.number.Reads as tell-number-reads
 use Rattle.duottarok.proofs.dpe_validate.Reads as dpe-validate-reads
@@ -112,6 +111,7 @@ use Rattle.rotate_context.proofs.rotate_on.Reads as rotate-context-rotate-on-rea
 use Rattle.destroy_context.proofs.destroy_slot_on.Reads as destroy-context-destroy-slot-on-reads
 use Rattle.destroy_context.proofs.destroy_on.Reads as destroy-context-destroy-on-reads
 use Rattle.tell.proofs.found.Reads as tell-found-reads
+use Rattle.validation.proofs.validate_image.Reads as validation-validate-image-reads
 
 -- two results that are both what a definition says are one
 one : {A : Type 0} {d r r' : A} → r ≡ d → r' ≡ d → r ≡ r'
@@ -232,8 +232,8 @@ context-u8bool-get κ a r r' s s' = one
 pub context-u8bool-new : OneResult context-u8bool-new-reads.Post
 context-u8bool-new κ a r r' s s' = one
 
-pub links-links_of : OneResult links-links-of-reads.Post
-links-links_of κ a r r' s s' = one
+pub links-links_of : (T : _) (l : _) (t : _) (d : _) → OneResult (links-links-of-reads.Post T l t d)
+links-links_of T l t d κ a r r' s s' = one
 
 pub walks-descendants-descend : (T : _) (l : _) (t : _) (d : _) → OneResult (walks-descendants-descend-reads.Post T l t d)
 walks-descendants-descend T l t d κ a r r' s s' = one
@@ -331,8 +331,8 @@ image_table-read_state κ a r r' s s' = one
 pub image_table-write_state : (κ : _) (a : _) (r r' : _) (s s' : _) → image-table-write-state-reads.Post κ a r s → image-table-write-state-reads.Post κ a r' s' → (r ≡ r') × (s.1.0.now ≡ s'.1.0.now)
 image_table-write_state κ a r r' s s' p q = (one p.0 q.0, one p.1 q.1)
 
-pub validation-validate_dpe : OneResult validation-validate-dpe-reads.Post
-validation-validate_dpe κ a r r' s s' = one
+pub validation-validate_dpe : (T : _) (l : _) (t : _) (d : _) → OneResult (validation-validate-dpe-reads.Post T l t d)
+validation-validate_dpe T l t d κ a r r' s s' = one
 
 pub verdict-outcome : OneResult verdict-outcome-reads.Post
 verdict-outcome κ a r r' s s' = one
@@ -343,8 +343,8 @@ validation_fields-support_test κ a r r' s s' = one
 pub validation_fields-inactive_test : OneResult validation-fields-inactive-test-reads.Post
 validation_fields-inactive_test κ a r r' s s' = one
 
-pub validation_localities-places_of : OneResult validation-localities-places-of-reads.Post
-validation_localities-places_of κ a r r' s s' = one
+pub validation_localities-places_of : (T : _) (l : _) (t : _) (d : _) → OneResult (validation-localities-places-of-reads.Post T l t d)
+validation_localities-places_of T l t d κ a r r' s s' = one
 
 pub validation_localities-localities_test : OneResult validation-localities-localities-test-reads.Post
 validation_localities-localities_test κ a r r' s s' = one
@@ -352,8 +352,8 @@ validation_localities-localities_test κ a r r' s s' = one
 pub validation_slots-context_test : OneResult validation-slots-context-test-reads.Post
 validation_slots-context_test κ a r r' s s' = one
 
-pub validation_slots-slots_test : OneResult validation-slots-slots-test-reads.Post
-validation_slots-slots_test κ a r r' s s' = one
+pub validation_slots-slots_test : (T : _) (l : _) (t : _) (d : _) → OneResult (validation-slots-slots-test-reads.Post T l t d)
+validation_slots-slots_test T l t d κ a r r' s s' = one
 
 pub validation_trees-trees_test : OneResult validation-trees-trees-test-reads.Post
 validation_trees-trees_test κ a r r' s s' = one
@@ -366,9 +366,6 @@ destroy_context-destroy_context κ a r r' s s' = one
 
 pub view-fields_at : OneResult view-fields-at-reads.Post
 view-fields_at κ a r r' s s' = one
-
-pub peek_validate-validate_image : OneResult peek-validate-validate-image-reads.Post
-peek_validate-validate_image κ a r r' s s' = one
 
 pub tell-refused : OneResult tell-refused-reads.Post
 tell-refused κ a r r' s s' = one
@@ -442,4 +439,8 @@ destroy_context-destroy_slot_on T l m dm t d κ a r r' s s' p q = one p.answers 
 pub destroy_context-destroy_on : (T : _) (l : _) (m : _) (dm : _) (t : _) (d : _) → OneResult (destroy-context-destroy-on-reads.Post T l m dm t d)
 destroy_context-destroy_on T l m dm t d κ a r r' s s' p q = one p.answers q.answers
 
--- TODO tell-found <T: Copy>
+pub tell-found : (T : _) (l : _) (m : _) (t : _) (d : _) (κ : _) (a : _) (r r' : _) (s s' : _) → tell-found-reads.Post T l m t d κ a r s → tell-found-reads.Post T l m t d κ a r' s' → (r ≡ r') × (s.1.0.now ≡ s'.1.0.now)
+tell-found T l m t d κ a r r' s s' p q = (one p.0 q.0, one p.1 q.1)
+
+pub validation-validate_image : OneResult validation-validate-image-reads.Post
+validation-validate_image κ a r r' s s' = one
