@@ -11,5 +11,5 @@ pub fn get(b: u8) -> bool
 pub fn new(b: bool) -> u8
     ensures { result ≡ byte_of b }
 {
-    if b { 1 } else { 0 }
+    u8::from(b)
 }

@@ -1,9 +1,11 @@
 // The state byte and the type byte of a context of the image, and what reading them answers. Added; the Rust has none.
 #![tactic(auto)]
 
-ghost use Rattle.std.specs.Prelude.{◌≡◌, ◌+◌, ◌≤◌, length};
+ghost use Rattle.std.specs.Prelude.{◌≡◌, ◌+◌, ◌≤◌, length, cond, ltb, Err};
+ghost use Rattle.error.specs.Numbers.{done};
+ghost use Rattle.error.specs.declared.DpeErrorCode.TheVariants.{Validation};
 ghost use Rattle.wire.specs.Le.{part};
-ghost use Rattle.image_kinds.specs.Kinds.{context_size, state_answer, type_answer, context_answer, kind_word, good_word};
+ghost use Rattle.image_kinds.specs.Kinds.{context_size, context_answer, kind_word, good_word};
 
 use error::{DpeErrorCode, ValidationError};
 
@@ -12,24 +14,14 @@ pub const CONTEXT_TYPE_AT: usize = 137;
 
 pub const STATE_AT: usize = 138;
 
-// Whether a state byte says a state.
-fn state_answer(b: u8) -> Result<(), DpeErrorCode>
-    ensures { result ≡ state_answer b }
+// Whether a byte says one of so many kinds.
+fn kind_answer(b: u8, kinds: u8, refusal: ValidationError) -> Result<(), DpeErrorCode>
+    ensures { result ≡ cond (ltb b kinds) done (Err (Validation refusal)) }
 {
-    if b >= 3 {
-        return Err(DpeErrorCode::Validation(ValidationError::BadContextState));
+    if b < kinds {
+        return Ok(());
     }
-    Ok(())
-}
-
-// Whether a type byte says a type.
-fn type_answer(b: u8) -> Result<(), DpeErrorCode>
-    ensures { result ≡ type_answer b }
-{
-    if b >= 2 {
-        return Err(DpeErrorCode::Validation(ValidationError::BadContextType));
-    }
-    Ok(())
+    Err(DpeErrorCode::Validation(refusal))
 }
 
 // What reading the context at `at` answers.
@@ -37,8 +29,8 @@ pub fn answer_at(image: &[u8], at: usize) -> Result<(), DpeErrorCode>
     requires { at + context_size ≤ length image.now }
     ensures { result ≡ context_answer (part at context_size image.now) }
 {
-    let s = state_answer(image[at + STATE_AT]);
-    let t = type_answer(image[at + CONTEXT_TYPE_AT]);
+    let s = kind_answer(image[at + STATE_AT], 3, ValidationError::BadContextState);
+    let t = kind_answer(image[at + CONTEXT_TYPE_AT], 2, ValidationError::BadContextType);
     s.and(t)
 }
 
