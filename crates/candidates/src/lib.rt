@@ -4,7 +4,7 @@
 ghost use Rattle.std.specs.Prelude.{◌≡◌, ◌<◌, ◌+◌, ◌*◌, ◌≤◌, length};
 ghost use Rattle.children.specs.Marks.{slot_count};
 ghost use Rattle.handle.specs.Handle.{handle_size};
-ghost use Rattle.context.specs.Context.{slot_of};
+ghost use Rattle.table.specs.State.{contexts_in};
 ghost use Rattle.candidates.specs.Candidates.{candidate_at, has_handle, chosen_in};
 
 use children::MAX_HANDLES;
@@ -25,7 +25,7 @@ pub fn candidate_at(candidates: &[u8], k: usize) -> [u8; handle::SIZE]
 // Whether the slot has the handle, in whatever state it is.
 fn has_handle<T: Slots>(t: &T, i: usize, h: [u8; handle::SIZE]) -> bool
     requires { i < slot_count }
-    ensures { result ≡ has_handle (slot_of (T.state t.now).contexts) h i }
+    ensures { result ≡ has_handle (contexts_in (T.state t.now)) h i }
 {
     handle::equals(t.handle_at(i), h)
 }
@@ -35,7 +35,7 @@ pub fn generate_new_handle<T: Slots>(
     t: &T,
     candidates: &[u8],
 ) -> Result<[u8; handle::SIZE], DpeErrorCode>
-    ensures { result ≡ chosen_in slot_count (slot_of (T.state t.now).contexts) candidates.now }
+    ensures { result ≡ chosen_in slot_count (contexts_in (T.state t.now)) candidates.now }
 {
     'candidates: for k in 0..MAX_NEW_HANDLE_ATTEMPTS {
         if candidates.len() < (k + 1) * handle::SIZE {

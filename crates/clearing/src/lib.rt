@@ -3,8 +3,7 @@
 
 ghost use Rattle.std.specs.Prelude.{◌≡◌, ◌<◌};
 ghost use Rattle.children.specs.Marks.{slot_count};
-ghost use Rattle.context.specs.Context.{slot_of};
-ghost use Rattle.table.specs.State.{with_slot};
+ghost use Rattle.table.specs.State.{contexts_in, with_slot};
 ghost use Rattle.clearing.specs.Clearing.{cleared_slot, cleared_by};
 
 use children::MAX_HANDLES;
@@ -14,7 +13,7 @@ use slots::SlotsMut;
 fn clear_slot<T: SlotsMut>(t: &mut T, i: usize, set: u64)
     requires { T.Reads t.old × (i < slot_count) }
     ensures reads { T.Reads t.new }
-    ensures state { T.state t.new ≡ with_slot (T.state t.old) i (cleared_slot set i (slot_of (T.state t.old).contexts i)) }
+    ensures state { T.state t.new ≡ with_slot (T.state t.old) i (cleared_slot set i (contexts_in (T.state t.old) i)) }
 {
     if children::has_child(set, i) {
         let cleared = t.context_at(i).destroy();

@@ -3,7 +3,7 @@
 
 ghost use Rattle.std.specs.Prelude.{◌≡◌};
 ghost use Rattle.children.specs.Marks.{slot_count};
-ghost use Rattle.context.specs.Context.{slot_of};
+ghost use Rattle.table.specs.State.{contexts_in};
 ghost use Rattle.slots.specs.Ends.{Ends};
 ghost use Rattle.destroy_context.specs.Destroy.{doomed_in, destroy_slot_of, destroy_of};
 
@@ -15,7 +15,7 @@ use walks::descendants;
 
 // The slots that go with a slot, as marks: itself, all that is below it, and the run above it. The walk up comes first.
 fn doomed<T: Slots>(t: &T, slot: usize) -> Result<u64, DpeErrorCode>
-    ensures { result ≡ doomed_in slot_count (slot_of (T.state t.now).contexts) slot }
+    ensures { result ≡ doomed_in slot_count (contexts_in (T.state t.now)) slot }
 {
     if slot >= MAX_HANDLES {
         return Err(DpeErrorCode::InternalError(InternalErrorCode::ContextIndexOob));

@@ -2,7 +2,7 @@
 #![tactic(auto)]
 
 ghost use Rattle.std.specs.Prelude.{◌≡◌};
-ghost use Rattle.context.specs.Context.{slot_of};
+ghost use Rattle.table.specs.State.{contexts_in};
 ghost use Rattle.links.specs.Summary.{summary_of};
 
 use children::MAX_HANDLES;
@@ -20,7 +20,7 @@ pub struct Links {
 
 // The summary of a table, in one pass.
 pub fn links_of<T: Slots>(t: &T) -> Links
-    ensures { result ≡ summary_of (slot_of (T.state t.now).contexts) }
+    ensures { result ≡ summary_of (contexts_in (T.state t.now)) }
 {
     let mut children = [0u64; MAX_HANDLES];
     let mut parents = [0u8; MAX_HANDLES];

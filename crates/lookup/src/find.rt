@@ -1,8 +1,7 @@
 // Slots looked for in a table, and counted. state.rs.
 ghost use Rattle.std.specs.Prelude.{◌≡◌};
 ghost use Rattle.children.specs.Marks.{slot_count};
-ghost use Rattle.context.specs.Context.{slot_of};
-ghost use Rattle.table.specs.State.{count_in, free_in};
+ghost use Rattle.table.specs.State.{contexts_in, count_in, free_in};
 
 use children::MAX_HANDLES;
 use context::ContextState;
@@ -11,7 +10,7 @@ use slots::Slots;
 
 // How many contexts are in a state.
 pub fn count_contexts<T: Slots>(t: &T, state: ContextState) -> usize
-    ensures { result ≡ count_in slot_count (slot_of (T.state t.now).contexts) state }
+    ensures { result ≡ count_in slot_count (contexts_in (T.state t.now)) state }
 {
     let mut found: usize = 0;
     for i in 0..MAX_HANDLES {
@@ -24,7 +23,7 @@ pub fn count_contexts<T: Slots>(t: &T, state: ContextState) -> usize
 
 // The lowest inactive slot.
 pub fn get_next_inactive_context_pos<T: Slots>(t: &T) -> Result<usize, DpeErrorCode>
-    ensures { result ≡ free_in slot_count (slot_of (T.state t.now).contexts) }
+    ensures { result ≡ free_in slot_count (contexts_in (T.state t.now)) }
 {
     for i in 0..MAX_HANDLES {
         if context::is_inactive(t.state_at(i)) {

@@ -5,7 +5,7 @@ pub mod find;
 
 ghost use Rattle.std.specs.Prelude.{◌≡◌, ◌<◌};
 ghost use Rattle.children.specs.Marks.{slot_count};
-ghost use Rattle.context.specs.Context.{slot_of};
+ghost use Rattle.table.specs.State.{contexts_in};
 ghost use Rattle.lookup.specs.Lookup.{active_in, lookup_in};
 
 use children::MAX_HANDLES;
@@ -15,7 +15,7 @@ use slots::Slots;
 // Whether the slot is active, and of the locality.
 pub fn active_in<T: Slots>(t: &T, i: usize, locality: u32) -> bool
     requires { i < slot_count }
-    ensures { result ≡ active_in (slot_of (T.state t.now).contexts) locality i }
+    ensures { result ≡ active_in (contexts_in (T.state t.now)) locality i }
 {
     context::is_active(t.state_at(i)) & (t.locality_at(i) == locality)
 }
@@ -26,7 +26,7 @@ pub fn get_active_context_pos<T: Slots>(
     handle: [u8; handle::SIZE],
     locality: u32,
 ) -> Result<usize, DpeErrorCode>
-    ensures { result ≡ lookup_in slot_count (slot_of (T.state t.now).contexts) handle locality }
+    ensures { result ≡ lookup_in slot_count (contexts_in (T.state t.now)) handle locality }
 {
     let mut seen_locality = false;
     for i in 0..MAX_HANDLES {

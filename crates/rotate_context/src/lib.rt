@@ -4,7 +4,7 @@
 ghost use Rattle.std.specs.Prelude.{◌≡◌, not, ◌&&◌, ◌||◌, ◌<◌, Ok};
 ghost use Rattle.children.specs.Marks.{slot_count};
 ghost use Rattle.handle.specs.Handle.{is_default};
-ghost use Rattle.context.specs.Context.{slot_of};
+ghost use Rattle.table.specs.State.{contexts_in};
 ghost use Rattle.slots.specs.Ends.{Ends};
 ghost use Rattle.lookup.specs.Lookup.{active_in};
 ghost use Rattle.rotate_context.specs.Rotate.{occupied, rotated_at, rotated_of};
@@ -18,7 +18,7 @@ use table::{flags, support};
 // Whether a slot keeps the locality from a new default: it is active there, and a default, or not the target.
 fn occupies<T: Slots>(t: &T, i: usize, locality: u32, is_target: bool) -> bool
     requires { i < slot_count }
-    ensures { result ≡ (active_in (slot_of (T.state t.now).contexts) locality i && (is_default (slot_of (T.state t.now).contexts i).handle || not is_target)) }
+    ensures { result ≡ (active_in (contexts_in (T.state t.now)) locality i && (is_default (contexts_in (T.state t.now) i).handle || not is_target)) }
 {
     let is_default = handle::is_default(t.handle_at(i));
     lookup::active_in(t, i, locality) & (is_default | !is_target)
@@ -26,7 +26,7 @@ fn occupies<T: Slots>(t: &T, i: usize, locality: u32, is_target: bool) -> bool
 
 // Whether the locality has an active default, the target included, or an active context other than the target.
 fn is_occupied<T: Slots>(t: &T, locality: u32, target_idx: usize) -> bool
-    ensures { result ≡ occupied slot_count (slot_of (T.state t.now).contexts) locality target_idx }
+    ensures { result ≡ occupied slot_count (contexts_in (T.state t.now)) locality target_idx }
 {
     for j in 0..MAX_HANDLES {
         if occupies(t, j, locality, j == target_idx) {

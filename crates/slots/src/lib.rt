@@ -6,9 +6,9 @@ pub mod in_place;
 
 ghost use Rattle.std.specs.Prelude.{◌≡◌, ◌<◌, length};
 ghost use Rattle.children.specs.Marks.{slot_count};
-ghost use Rattle.context.specs.Context.{slot_of, with_handle, with_children};
+ghost use Rattle.context.specs.Context.{with_handle, with_children};
 ghost use Rattle.table.specs.declared.state.State.{State};
-ghost use Rattle.table.specs.State.{with_slot, with_initialized};
+ghost use Rattle.table.specs.State.{contexts_in, with_slot, with_initialized};
 
 use context::{Context, ContextState, ContextType};
 
@@ -31,31 +31,31 @@ pub trait Slots {
 
     fn state_at(&self, i: usize) -> ContextState
         requires { i < slot_count }
-        ensures { result ≡ (slot_of (state self.now).contexts i).state };
+        ensures { result ≡ (contexts_in (state self.now) i).state };
 
     fn context_type_at(&self, i: usize) -> ContextType
         requires { i < slot_count }
-        ensures { result ≡ (slot_of (state self.now).contexts i).context_type };
+        ensures { result ≡ (contexts_in (state self.now) i).context_type };
 
     fn locality_at(&self, i: usize) -> u32
         requires { i < slot_count }
-        ensures { result ≡ (slot_of (state self.now).contexts i).locality };
+        ensures { result ≡ (contexts_in (state self.now) i).locality };
 
     fn parent_at(&self, i: usize) -> u8
         requires { i < slot_count }
-        ensures { result ≡ (slot_of (state self.now).contexts i).parent_idx };
+        ensures { result ≡ (contexts_in (state self.now) i).parent_idx };
 
     fn children_at(&self, i: usize) -> u64
         requires { i < slot_count }
-        ensures { result ≡ (slot_of (state self.now).contexts i).children };
+        ensures { result ≡ (contexts_in (state self.now) i).children };
 
     fn handle_at(&self, i: usize) -> [u8; handle::SIZE]
         requires { i < slot_count }
-        ensures { result ≡ (slot_of (state self.now).contexts i).handle };
+        ensures { result ≡ (contexts_in (state self.now) i).handle };
 
     fn context_at(&self, i: usize) -> Context
         requires { i < slot_count }
-        ensures { result ≡ slot_of (state self.now).contexts i };
+        ensures { result ≡ contexts_in (state self.now) i };
 }
 
 // What can be written; all else stays.
@@ -66,12 +66,12 @@ pub trait SlotsMut: Slots {
     fn put_handle(&mut self, i: usize, handle: [u8; handle::SIZE])
         requires { Reads self.old × (i < slot_count) }
         ensures reads { Reads self.new }
-        ensures state { Self.state self.new ≡ with_slot (Self.state self.old) i (with_handle (slot_of (Self.state self.old).contexts i) handle) };
+        ensures state { Self.state self.new ≡ with_slot (Self.state self.old) i (with_handle (contexts_in (Self.state self.old) i) handle) };
 
     fn put_children(&mut self, i: usize, children: u64)
         requires { Reads self.old × (i < slot_count) }
         ensures reads { Reads self.new }
-        ensures state { Self.state self.new ≡ with_slot (Self.state self.old) i (with_children (slot_of (Self.state self.old).contexts i) children) };
+        ensures state { Self.state self.new ≡ with_slot (Self.state self.old) i (with_children (contexts_in (Self.state self.old) i) children) };
 
     fn put_context(&mut self, i: usize, c: Context)
         requires { Reads self.old × (i < slot_count) }

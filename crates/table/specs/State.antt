@@ -9,7 +9,7 @@ use Rattle.context.specs.declared.ContextState.{ContextState}
 use Rattle.context.specs.declared.Context.{Context}
 use Rattle.table.specs.declared.state.State.{State}
 use Rattle.table.specs.declared.state.Outcome.{Outcome}
-use Rattle.context.specs.Context.{new_context, same_state, is_inactive}
+use Rattle.context.specs.Context.{new_context, same_state, is_inactive, slot_of}
 
 -- the marker and the version that a table must have
 abbrev pub magic : ℕ
@@ -68,6 +68,10 @@ abbrev pub handed_of : State → List ℕ → Outcome (List ℕ)
 handed_of t h = record { answer = Ok h; state = t }
 
 -- ---- slots
+
+-- the contexts of a table, as a function of the slot
+abbrev pub contexts_in : State → ℕ → Context
+contexts_in t = slot_of t.contexts
 
 -- the contexts in a state
 abbrev pub is_in_state : (ℕ → Context) → ContextState → ℕ → Bool

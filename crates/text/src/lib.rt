@@ -5,7 +5,7 @@ ghost use Rattle.std.specs.Prelude.{◌≡◌, ◌+◌, ◌*◌, ◌<◌, ◌≤
 ghost use Rattle.io.specs.Counts.{IsPrefixLen};
 ghost use Rattle.children.specs.Marks.{slot_count};
 ghost use Rattle.wire.specs.Le.{put};
-ghost use Rattle.context.specs.Context.{slot_of};
+ghost use Rattle.table.specs.State.{contexts_in};
 ghost use Rattle.image.specs.State.{state_size, decode_state};
 ghost use Rattle.text_row.specs.Row.{PutAt, row_most};
 ghost use Rattle.text.specs.Text.{line_of, rows_to, listing_of};
@@ -33,7 +33,7 @@ fn put_line(out: &mut [u8], at: usize, slot: usize, f: SlotFields) -> usize
 // The lines of all slots, upward, read through the view.
 fn put_rows(image: &[u8], out: &mut [u8], at: usize) -> usize
     requires { (length image.now ≡ state_size) × (at + row_most * slot_count ≤ length out.old) }
-    ensures put_at { PutAt at (rows_to (slot_of (decode_state image.now).contexts) slot_count) out.old out.new result }
+    ensures put_at { PutAt at (rows_to (contexts_in (decode_state image.now)) slot_count) out.old out.new result }
     ensures upper_bound { result ≤ at + row_most * slot_count }
 {
     let mut end = at;

@@ -427,17 +427,17 @@ lookup-find-count_contexts T l t d κ a r r' s s' = one
 pub lookup-find-get_next_inactive_context_pos : (T : _) (l : _) (t : _) (d : _) → OneResult (lookup-find-get-next-inactive-context-pos-reads.Post T l t d)
 lookup-find-get_next_inactive_context_pos T l t d κ a r r' s s' = one
 
-pub initialize_context-initialize_on : (T : _) (l : _) (m : _) (dm : _) (t : _) (d : _) → OneResult (initialize-context-initialize-on-reads.Post T l m dm t d)
-initialize_context-initialize_on T l m dm t d κ a r r' s s' p q = one p.answers q.answers
+pub initialize_context-initialize_on : (T : _) (l : _) (m : _) (dm : _) (t : _) (d : _) (κ : _) (a : _) (r r' : _) (s s' : _) → initialize-context-initialize-on-reads.Post T l m dm t d κ a r s → initialize-context-initialize-on-reads.Post T l m dm t d κ a r' s' → (r ≡ r') × (t.state s.0.now ≡ t.state s'.0.now)
+initialize_context-initialize_on T l m dm t d κ a r r' s s' p q = (one p.answers q.answers, one p.table q.table)
 
-pub rotate_context-rotate_on : (T : _) (l : _) (m : _) (dm : _) (t : _) (d : _) → OneResult (rotate-context-rotate-on-reads.Post T l m dm t d)
-rotate_context-rotate_on T l m dm t d κ a r r' s s' p q = one p.answers q.answers
+pub rotate_context-rotate_on : (T : _) (l : _) (m : _) (dm : _) (t : _) (d : _) (κ : _) (a : _) (r r' : _) (s s' : _) → rotate-context-rotate-on-reads.Post T l m dm t d κ a r s → rotate-context-rotate-on-reads.Post T l m dm t d κ a r' s' → (r ≡ r') × (t.state s.0.now ≡ t.state s'.0.now)
+rotate_context-rotate_on T l m dm t d κ a r r' s s' p q = (one p.answers q.answers, one p.table q.table)
 
-pub destroy_context-destroy_slot_on : (T : _) (l : _) (m : _) (dm : _) (t : _) (d : _) → OneResult (destroy-context-destroy-slot-on-reads.Post T l m dm t d)
-destroy_context-destroy_slot_on T l m dm t d κ a r r' s s' p q = one p.answers q.answers
+pub destroy_context-destroy_slot_on : (T : _) (l : _) (m : _) (dm : _) (t : _) (d : _) (κ : _) (a : _) (r r' : _) (s s' : _) → destroy-context-destroy-slot-on-reads.Post T l m dm t d κ a r s → destroy-context-destroy-slot-on-reads.Post T l m dm t d κ a r' s' → (r ≡ r') × (t.state s.0.now ≡ t.state s'.0.now)
+destroy_context-destroy_slot_on T l m dm t d κ a r r' s s' p q = (one p.answers q.answers, one p.table q.table)
 
-pub destroy_context-destroy_on : (T : _) (l : _) (m : _) (dm : _) (t : _) (d : _) → OneResult (destroy-context-destroy-on-reads.Post T l m dm t d)
-destroy_context-destroy_on T l m dm t d κ a r r' s s' p q = one p.answers q.answers
+pub destroy_context-destroy_on : (T : _) (l : _) (m : _) (dm : _) (t : _) (d : _) (κ : _) (a : _) (r r' : _) (s s' : _) → destroy-context-destroy-on-reads.Post T l m dm t d κ a r s → destroy-context-destroy-on-reads.Post T l m dm t d κ a r' s' → (r ≡ r') × (t.state s.0.now ≡ t.state s'.0.now)
+destroy_context-destroy_on T l m dm t d κ a r r' s s' p q = (one p.answers q.answers, one p.table q.table)
 
 pub tell-found : (T : _) (l : _) (m : _) (t : _) (d : _) (κ : _) (a : _) (r r' : _) (s s' : _) → tell-found-reads.Post T l m t d κ a r s → tell-found-reads.Post T l m t d κ a r' s' → (r ≡ r') × (s.1.0.now ≡ s'.1.0.now)
 tell-found T l m t d κ a r r' s s' p q = (one p.0 q.0, one p.1 q.1)

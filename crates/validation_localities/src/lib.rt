@@ -4,7 +4,7 @@
 ghost use Rattle.std.specs.Prelude.{◌≡◌, ◌<◌};
 ghost use Rattle.children.specs.Below.{some};
 ghost use Rattle.children.specs.Marks.{slot_count, mark_count, marked};
-ghost use Rattle.context.specs.Context.{slot_of};
+ghost use Rattle.table.specs.State.{contexts_in};
 ghost use Rattle.links.specs.Summary.{number_in};
 ghost use Rattle.verdict.specs.Tests.{within, mix_test, locality_of, localities_test};
 ghost use Rattle.validation_localities.specs.Summary.{places_of, beside_in, crowded_in, tally};
@@ -24,7 +24,7 @@ pub struct Places {
 
 // The places of a table, in one pass.
 pub fn places_of<T: Slots>(t: &T) -> Places
-    ensures { result ≡ places_of (slot_of (T.state t.now).contexts) }
+    ensures { result ≡ places_of (contexts_in (T.state t.now)) }
 {
     let mut localities = [0u32; MAX_HANDLES];
     let mut defaults = children::empty();

@@ -3,7 +3,7 @@
 
 ghost use Rattle.std.specs.Prelude.{◌≡◌, not, ◌<◌, ◌/◌, ◌^◌, eqb};
 ghost use Rattle.children.specs.Marks.{slot_count, mark_count, marked};
-ghost use Rattle.context.specs.Context.{slot_of};
+ghost use Rattle.table.specs.State.{contexts_in};
 ghost use Rattle.links.specs.Summary.{number_in};
 ghost use Rattle.verdict.specs.Tests.{header_of, first_below, parent_test, child_test, state_of, context_of};
 ghost use Rattle.validation_slots.specs.Summary.{slot_child, links_on, slot_in};
@@ -145,7 +145,7 @@ pub fn context_test(
 // Each slot of the table, upward.
 #[tactic(auto, using(verdict::proofs::Steps::below_none, verdict::proofs::Steps::below_more))]
 pub fn slots_test<T: Slots>(t: &T, l: &Links) -> Result<(), ValidationError>
-    ensures { result ≡ first_below (slot_in (header_of (T.state t.now)) (slot_of (T.state t.now).contexts) l.now.children l.now.parents l.now.live) slot_count }
+    ensures { result ≡ first_below (slot_in (header_of (T.state t.now)) (contexts_in (T.state t.now)) l.now.children l.now.parents l.now.live) slot_count }
 {
     let word = t.support();
     let init = t.has_initialized();

@@ -2,10 +2,10 @@
 ghost use Rattle.std.specs.Prelude.{◌≡◌, ◌<◌};
 ghost use Rattle.error.specs.declared.DpeErrorCode.TheVariants.{InvalidHandle};
 ghost use Rattle.children.specs.Marks.{slot_count};
-ghost use Rattle.context.specs.Context.{slot_of};
 ghost use Rattle.forest.specs.Walk.{walk_down};
 ghost use Rattle.links.specs.Summary.{live_at, kids_at};
 ghost use Rattle.forest.specs.Told.{told_of};
+ghost use Rattle.table.specs.State.{contexts_in};
 ghost use Rattle.walks.specs.Walks.{descendants_in};
 
 use children::MAX_HANDLES;
@@ -16,7 +16,7 @@ use slots::Slots;
 // The last child of a slot takes its place, so that only a child with another after it is a call.
 pub fn descend<T: Slots>(t: &T, path: u64, slot: usize, depth: usize) -> Result<u64, DpeErrorCode>
     requires { slot < slot_count }
-    ensures { let s = slot_of (T.state t.now).contexts in result ≡ told_of InvalidHandle (walk_down slot_count (live_at s) (kids_at s) depth path slot) }
+    ensures { let s = contexts_in (T.state t.now) in result ≡ told_of InvalidHandle (walk_down slot_count (live_at s) (kids_at s) depth path slot) }
 {
     let mut found = children::empty();
     let mut down = path;
@@ -54,7 +54,7 @@ pub fn descend<T: Slots>(t: &T, path: u64, slot: usize, depth: usize) -> Result<
 
 // The descendants of a slot, as marks.
 pub fn get_descendants<T: Slots>(t: &T, slot: usize) -> Result<u64, DpeErrorCode>
-    ensures { result ≡ descendants_in slot_count (slot_of (T.state t.now).contexts) slot }
+    ensures { result ≡ descendants_in slot_count (contexts_in (T.state t.now)) slot }
 {
     if slot >= MAX_HANDLES {
         return Err(DpeErrorCode::InternalError(InternalErrorCode::ContextIndexOob));

@@ -4,7 +4,7 @@
 
 ghost use Rattle.std.specs.Prelude.{◌≡◌};
 ghost use Rattle.children.specs.Marks.{slot_count};
-ghost use Rattle.context.specs.Context.{slot_of};
+ghost use Rattle.table.specs.State.{contexts_in};
 ghost use Rattle.links.specs.Summary.{live_at, parent_at};
 ghost use Rattle.walks_path.specs.Path.{parent_of, path_in};
 
@@ -22,7 +22,7 @@ pub struct Path {
 
 // The parent of a slot that may stand on a path.
 fn parent_of<T: Slots>(t: &T, slot: usize) -> Result<usize, DpeErrorCode>
-    ensures { let s = slot_of (T.state t.now).contexts in result ≡ parent_of slot_count (live_at s) (parent_at s) slot }
+    ensures { let s = contexts_in (T.state t.now) in result ≡ parent_of slot_count (live_at s) (parent_at s) slot }
 {
     if slot >= MAX_HANDLES {
         return Err(DpeErrorCode::InternalError(InternalErrorCode::ContextIndexOob));
@@ -39,7 +39,7 @@ fn parent_of<T: Slots>(t: &T, slot: usize) -> Result<usize, DpeErrorCode>
 
 // The path from the root down to a slot. Each parent is read once: the slots are met from the slot itself on, and turned round at the root.
 pub fn root_to_leaf<T: Slots>(t: &T, slot: usize) -> Result<Path, DpeErrorCode>
-    ensures { result ≡ path_in slot_count (slot_of (T.state t.now).contexts) slot }
+    ensures { result ≡ path_in slot_count (contexts_in (T.state t.now)) slot }
 {
     let mut slots = [0u8; MAX_HANDLES];
     let mut x = slot;

@@ -4,7 +4,7 @@
 
 ghost use Rattle.std.specs.Prelude.{◌≡◌};
 ghost use Rattle.children.specs.Marks.{slot_count};
-ghost use Rattle.context.specs.Context.{slot_of};
+ghost use Rattle.table.specs.State.{contexts_in};
 ghost use Rattle.links.specs.Summary.{retired_at, parent_at, kids_at};
 ghost use Rattle.walks_run.specs.Run.{run_from};
 
@@ -15,7 +15,7 @@ use slots::Slots;
 
 // The run from the slot `start` upward, as marks.
 pub fn run_above<T: Slots>(t: &T, start: u8) -> Result<u64, DpeErrorCode>
-    ensures { let s = slot_of (T.state t.now).contexts in result ≡ run_from slot_count (retired_at s) (parent_at s) (kids_at s) start }
+    ensures { let s = contexts_in (T.state t.now) in result ≡ run_from slot_count (retired_at s) (parent_at s) (kids_at s) start }
 {
     let mut taken = children::empty();
     let mut p = start;
