@@ -37,10 +37,11 @@ pub struct Context {
     // The slots that are children of this one, as marks.
     pub children: u64,
     pub locality: u32,
-    // The slot of the parent, or ROOT_INDEX.
+    // The slot of the parent, or ROOT_INDEX. A byte and no Option: an image may hold 32 to 254 here and keeps it (`read_write` of image).
     pub parent_idx: u8,
     pub context_type: ContextType,
     pub state: ContextState,
+    // Bytes and no bools: an image may hold any byte here and keeps it (`read_write` of image).
     pub uses_internal_input_info: u8,
     pub uses_internal_input_dice: u8,
     pub allow_x509: u8,

@@ -94,6 +94,9 @@ impl From<AddedErrorCode> for DpeErrorCode {
     }
 }
 
+// The numbers of the refusals are what the C interface hands out. They stand in a match and are no discriminants: the edit number_of_a_fault
+// gives two faults one number, which discriminants cannot have.
+
 // The number of an internal error.
 pub fn internal(i: InternalErrorCode) -> u32
     ensures { result ≡ internal_of i }

@@ -40,7 +40,7 @@ pub const ALLOW_EXPORT_CDI_AT: usize = 142;
 
 pub const ALLOW_RECURSIVE_AT: usize = 143;
 
-// The state that a byte says; only 0, 1 and 2 are ever asked for.
+// The state that a byte says; only 0, 1 and 2 are ever asked for. Total and no TryFrom, as the definition is: image_kinds refuses other bytes before.
 pub fn state_of(b: u8) -> ContextState
     ensures { result ≡ state_of b }
 {
@@ -51,7 +51,7 @@ pub fn state_of(b: u8) -> ContextState
     }
 }
 
-// The type that a byte says; only 0 and 1 are ever asked for.
+// The type that a byte says; only 0 and 1 are ever asked for. Total, as `state_of` is.
 pub fn type_of(b: u8) -> ContextType
     ensures { result ≡ type_of b }
 {

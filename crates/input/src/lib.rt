@@ -14,6 +14,7 @@ pub fn read_full<R: Read>(from: &mut R, buffer: &mut [u8]) -> io::Result<usize>
     ensures bytes { IfOk result (λ n. Consumes (R.remaining from.old) (R.remaining from.new) (take n buffer.new)) }
     ensures end { IfOk result (λ n. n < length buffer.new → IsAtEnd (R.remaining from.new)) }
 {
+    // No `read_exact`: an input may end early, and how many bytes came is the answer.
     let mut n = 0;
     while n < buffer.len() {
         let k = from.read(&mut buffer[n..])?;

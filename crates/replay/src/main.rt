@@ -173,6 +173,7 @@ fn first_case(s: &[u8]) -> Case
 fn replay(list: &[u8]) -> Tally {
     let mut cases: u64 = 0;
     let mut differ: u64 = 0;
+    // No iterator of slices: each case says how long it is.
     let mut rest = list;
     while !rest.is_empty() {
         let c = first_case(rest);

@@ -75,7 +75,7 @@ pub fn rotate_on<T: SlotsMut>(
     Ok(fresh)
 }
 
-// The same by value: the table in, and back.
+// The same by value: the table in, and back, which is the form and the meaning of a call.
 pub fn rotate_context(
     t: State,
     handle: [u8; handle::SIZE],

@@ -12,7 +12,7 @@ ghost use Rattle.table.specs.State.{contexts_in, with_slot, with_initialized};
 
 use context::{Context, ContextState, ContextType};
 
-// What can be read.
+// What can be read. A slot is a plain number below slot_count: a type for it would be made at each loop and each mark, and taken apart at each array.
 pub trait Slots {
     // The table that it is.
     ghost state: { Self → State };

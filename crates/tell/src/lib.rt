@@ -28,7 +28,7 @@ pub fn found<T: Copy>(answer: Result<T, DpeErrorCode>, place: &mut T) -> u64
     }
 }
 
-// The same for a number of slots.
+// The same for a number of slots, into a place that is 64 bits wide, as C has it.
 pub fn number(answer: Result<usize, DpeErrorCode>, place: &mut u64) -> u64
     ensures value { result ≡ word_of answer }
     ensures place_after { place.new ≡ result_unwrap_or answer place.old }

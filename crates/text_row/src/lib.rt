@@ -18,7 +18,7 @@ const SPACE: u8 = b' ';
 
 const NEWLINE: u8 = b'\n';
 
-// A number in decimal, and a byte after it.
+// A number in decimal, and a byte after it. Bytes into the lent buffer and no Display: `PutAt` says each byte, and there is no heap.
 pub fn put_number(out: &mut [u8], at: usize, n: u32, mark: u8) -> usize
     requires { at + number_most ≤ length out.old }
     ensures put_at { PutAt at (number_then n mark) out.old out.new result }

@@ -13,14 +13,14 @@ use context::ROOT_INDEX;
 use error::{DpeErrorCode, InternalErrorCode};
 use slots::Slots;
 
-// A path: how many slots it has, and the slots from the root on, 0 after the last.
+// A path: how many slots it has, and the slots from the root on, 0 after the last. An array with its length: there is no heap, and C is given both.
 #[derive(Clone, Copy)]
 pub struct Path {
     pub length: usize,
     pub slots: [u8; MAX_HANDLES],
 }
 
-// The parent of a slot that may stand on a path.
+// The parent of a slot that may stand on a path; ROOT_INDEX where it has none, as the definition says.
 fn parent_of<T: Slots>(t: &T, slot: usize) -> Result<usize, DpeErrorCode>
     ensures { let s = contexts_in (T.state t.now) in result ≡ parent_of slot_count (live_at s) (parent_at s) slot }
 {
