@@ -1,5 +1,7 @@
 -- The laws of marks, for any slot below 64 and any number of slots up to 64. Assumes nothing.
-use mathlib.Core.Bool.{Bool, true, false, not, ◌&&◌, ◌||◌, or_assoc, or-false}
+use Rattle.std.specs.Prelude.{Option, Some, None, unwrap_or}
+use Rattle.std.proofs.lemmas.Option.{cond_some, none-some}
+use mathlib.Core.Bool.{Bool, true, false, not, cond, ◌&&◌, ◌||◌, or_assoc, or-false}
 use mathlib.Core.Path.{◌≡◌, refl, sym, ap, ◌∙◌, subst}
 use mathlib.Core.Logic.{◌⊎◌, inl, inr}
 use Prim.Native.Nat.{ℕ, zero, suc, ◌+◌, ◌-◌, ◌*◌, ◌/◌, ◌%◌, ◌^◌, ◌≤◌, ◌<◌, suc-le-suc}
@@ -10,13 +12,13 @@ use native.Mathlib.Omega.{arith}
 use lib.Arith.{lt-one}
 use lib.Bits.{bit_and, bit_or, or_shr, or_mod, and_shr, and_mod, or_lt, and_le_l}
 use lib.Count.{count_trailing_zeros, under, ones, ones_in, ones_cat}
-use lib.Dec.{eqb, eqb-zero-suc, eqb-suc-zero, eqb-suc-suc}
+use lib.Dec.{eqb, ltb, eqb-zero-suc, eqb-suc-zero, eqb-suc-suc}
 use lib.Pow.{pow_pos, pow_mono, shr-shr, mod-pow-add, mod-mod-pow, field}
 use borrow.Author.Tests.{eq-eqb, ne_eqb, lt-ltb, le-ltb}
 use Rattle.children.specs.Below.{count, lowest_from}
-use Rattle.children.specs.Marks.{mark_count, marked, has_below, with, joined, without, count_below, next_below}
-use Rattle.children.proofs.Cases.{true-eqb}
-use Rattle.children.proofs.Below.{count-put, low_ge, low_passes}
+use Rattle.children.specs.Marks.{mark_count, marked, has_below, with, joined, without, count_below, next_below, next_of}
+use Rattle.children.proofs.Cases.{two, true-eqb, ltb-true, ltb-false}
+use Rattle.children.proofs.Below.{count-put, low_ge, low-le, low_passes}
 
 two_pos : zero < 2
 two_pos = zero-lt-suc 1
@@ -271,10 +273,41 @@ next_out (suc g) (suc d) m k h l = elim (bit-of m k) [
       rw e.1 (omega arith)
 ]
 
--- the next mark is no step back
-pub next-after : (n m k : ℕ) {r : ℕ} → r ≡ next_below n m k → k ≤ r
-next-after n m k e = let h = low_ge (marked m) (n - k) k in omega arith
+-- the next mark is the lowest at k or above it, and one below n
+pub next-some : (n m k r : ℕ) {o : Option ℕ} → o ≡ next_of n m k → o ≡ Some r → (r ≡ next_below n m k) × (k ≤ r) × (r < n) × (marked m r ≡ true)
+unfolding next_of
+next-some n m k r q e =
+    let low = next_below n m k in
+    let ge = low_ge (marked m) (n - k) k in
+    let p = cond_some (ltb low n) low r (sym q ∙ e) in
+    let s = sym p.1 in
+    let l = ltb-true low n p.0 in
+    (s, omega arith, omega arith, ap (marked m) s ∙ low_passes (marked m) (n - k) k (omega arith))
 
--- and where it is none of those after the end, it is marked
-pub next-marked : (n m k r : ℕ) → k ≤ n → r ≡ next_below n m k → r < n → marked m r ≡ true
-next-marked n m k r h q l = ap (marked m) q ∙ low_passes (marked m) (n - k) k (omega arith)
+-- where there is none, there is none below n
+pub next-none : (n m k : ℕ) {o : Option ℕ} → o ≡ next_of n m k → o ≡ None → n ≤ next_below n m k
+unfolding next_of
+next-none n m k q e = elim (two (ltb (next_below n m k) n)) [
+  | inl b ↦ absurd (none-some _ (sym (sym q ∙ e) ∙ ap (λ (x : Bool). cond x (Some (next_below n m k)) None) b))
+  | inr b ↦ ltb-false _ n b
+]
+
+-- with n for none, it is the lowest
+pub next-low : (n m k : ℕ) {o : Option ℕ} → k ≤ n → o ≡ next_of n m k → unwrap_or o n ≡ next_below n m k
+unfolding next_of
+next-low n m k h q =
+    let low = next_below n m k in
+    let le = low-le (marked m) (n - k) k in
+    ap (λ (x : Option ℕ). unwrap_or x n) q
+    ∙ elim (two (ltb low n)) [
+      | inl b ↦ rw b
+      | inr b ↦ let g = ltb-false low n b in rw b (omega arith)
+    ]
+
+-- so from mark to mark there is less left
+pub next-smaller : (n m k : ℕ) {o p : Option ℕ} → k < n → o ≡ Some k → p ≡ next_of n m (k + 1) → n - unwrap_or p n < n - unwrap_or o n
+next-smaller n m k h e q =
+    let s = ap (λ (x : Option ℕ). unwrap_or x n) e in
+    let t = next-low n m (k + 1) (omega arith) q in
+    let ge = low_ge (marked m) (n - (k + 1)) (k + 1) in
+    omega arith

@@ -1,7 +1,7 @@
 -- Marks of slots in a word of 64 bits. Only the marks below the number of slots n are counted, iterated or tested; the word may hold more.
 -- Assumes nothing: these are definitions.
 use Rattle.error.specs.declared.DpeErrorCode.{DpeErrorCode}
-use Rattle.std.specs.Prelude.{Bool, cond, ◌&&◌, ℕ, ◌-◌, ◌/◌, ◌%◌, ◌^◌, ltb, eqb, Result, Ok, Err}
+use Rattle.std.specs.Prelude.{Bool, cond, ◌&&◌, ℕ, ◌-◌, ◌/◌, ◌%◌, ◌^◌, ltb, eqb, Option, Some, None, Result, Ok, Err}
 use Rattle.std.specs.Int.Bits.{bit_and, bit_or}
 use Rattle.error.specs.declared.DpeErrorCode.TheVariants.{InternalError}
 use Rattle.error.specs.declared.InternalErrorCode.TheVariants.{ChildrenBitmapIndexOob}
@@ -44,6 +44,10 @@ count_below n m = count (marked m) n
 -- the lowest mark at k or above it and below n; where there is none, n, or k where that is higher
 abbrev pub next_below : ℕ → ℕ → ℕ → ℕ
 next_below n m k = lowest_from (marked m) (n - k) k
+
+-- that mark, or none
+unfoldable pub next_of : ℕ → ℕ → ℕ → Option ℕ
+next_of n m k = cond (ltb (next_below n m k) n) (Some (next_below n m k)) None
 
 -- m with slot k marked, or the refusal where k is no slot
 unfoldable pub add_child_of : ℕ → ℕ → ℕ → Result ℕ DpeErrorCode

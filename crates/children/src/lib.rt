@@ -3,7 +3,7 @@
 
 ghost use Rattle.std.specs.Prelude.{◌≡◌, not, ◌≤◌, ◌<◌, eqb};
 ghost use Rattle.std.specs.Int.Count.{count_trailing_zeros};
-ghost use Rattle.children.specs.Marks.{slot_count, mark_count, has_below, with, joined, without, with_if, count_below, next_below, add_child_of};
+ghost use Rattle.children.specs.Marks.{slot_count, mark_count, has_below, with, joined, without, with_if, count_below, next_of, add_child_of};
 
 use error::{DpeErrorCode, InternalErrorCode};
 
@@ -98,13 +98,13 @@ fn zeros(m: u64) -> usize
     u64::trailing_zeros(m) as usize
 }
 
-// The next marked slot, at k or above it; where there is none, a number that is no slot.
-pub fn next(m: u64, k: usize) -> usize
-    ensures { result ≡ next_below slot_count m k }
+// The next marked slot, at k or above it.
+pub fn next(m: u64, k: usize) -> Option<usize>
+    ensures { result ≡ next_of slot_count m k }
 {
     if k >= MAX_HANDLES {
-        return k;
+        return None;
     }
     let r = k + zeros(m >> k);
-    if r < MAX_HANDLES { r } else { MAX_HANDLES }
+    if r < MAX_HANDLES { Some(r) } else { None }
 }

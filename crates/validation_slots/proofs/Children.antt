@@ -1,6 +1,6 @@
 -- The marks of a slot, tested from mark to mark, and those above the slots in one test. Assumes nothing.
 use Rattle.error.specs.declared.ValidationError.{ValidationError}
-use Rattle.std.specs.Prelude.{Result, Ok, Err}
+use Rattle.std.specs.Prelude.{Option, Some, None, unwrap_or, Result, Ok, Err}
 use mathlib.Core.Bool.{Bool, true, false, not}
 use mathlib.Core.Path.{◌≡◌, sym, ap, ◌∙◌}
 use Prim.Native.Nat.{ℕ, ◌+◌, ◌-◌, ◌/◌, ◌%◌, ◌^◌, ◌≤◌, ◌<◌}
@@ -12,10 +12,10 @@ use lib.Pow.{pow_pos, pow-add, shr-shr}
 use borrow.Author.Tests.{lt-ltb, le-ltb, eq-eqb}
 use Rattle.error.specs.declared.ValidationError.TheVariants.{ChildDoesNotExist}
 use Rattle.children.specs.Below.{lowest_from}
-use Rattle.children.specs.Marks.{mark_count, marked, next_below}
+use Rattle.children.specs.Marks.{mark_count, marked, next_below, next_of}
 use Rattle.children.proofs.Cases.{clash, eqb-true, not-false}
-use Rattle.children.proofs.Below.{low_ge, low-le, low_bare, low_passes}
-use Rattle.children.proofs.Marks.{has-is, marked-high, no-marks}
+use Rattle.children.proofs.Below.{low_ge, low_bare, low_passes}
+use Rattle.children.proofs.Marks.{has-is, marked-high, no-marks, next-low, next-some}
 use Rattle.verdict.specs.Tests.{first_below, child_test}
 use Rattle.verdict.proofs.Steps.{pass, stop, where_on, where_off, below_iff, below_stop}
 use Rattle.validation_slots.specs.Summary.{slot_child}
@@ -40,18 +40,22 @@ module _ (n : ℕ) (live : ℕ → Bool) (parent : ℕ → ℕ) (i m : ℕ) wher
   skip : (a b : ℕ) → ((j : ℕ) → a ≤ j → j < b → marked m j ≡ false) → first_below Child a ≡ Ok tt → first_below Child b ≡ Ok tt
   skip a b f e = (below_iff Child b).1 (λ j h. elim (dec_lt j a) [ yes l ↦ (below_iff Child a).0 e j l | no nl ↦ child_none j (f j (omega arith) h) ])
 
-  -- what holds at each turn: no fault below k, and k is a mark or the end
-  abbrev pub Turn : ℕ → Type 0
-  Turn k = (k ≤ n) × (first_below Child k ≡ Ok tt) × (k < n → marked m k ≡ true)
+  -- what holds at each turn: no fault before the next mark, which is that of a slot
+  abbrev pub Turn : Option ℕ → Type 0
+  Turn next = (first_below Child (unwrap_or next n) ≡ Ok tt) × ((k : ℕ) → next ≡ Some k → (k < n) × (marked m k ≡ true))
 
-  pub turn_on : (k r : ℕ) → k ≤ n → first_below Child k ≡ Ok tt → r ≡ next_below n m k → Turn r
-  turn_on k r h e q =
-      let ge = low_ge (marked m) (n - k) k in
-      let le = low-le (marked m) (n - k) k in (
-        omega arith,
-        ap (first_below Child) q ∙ skip k (next_below n m k) (low_bare (marked m) (n - k) k) e,
-        λ l. ap (marked m) q ∙ low_passes (marked m) (n - k) k (omega arith),
-      )
+  pub turn_on : (k : ℕ) {next : Option ℕ} → k ≤ n → first_below Child k ≡ Ok tt → next ≡ next_of n m k → Turn next
+  turn_on k h e q = (
+    ap (first_below Child) (next-low n m k h q) ∙ skip k (next_below n m k) (low_bare (marked m) (n - k) k) e,
+    λ r s. let b = next-some n m k r q s in (b.2, b.3),
+  )
+
+  -- no fault before the mark at k; and none below n, where none is left
+  pub turn_at : {next : Option ℕ} (k : ℕ) → Turn next → next ≡ Some k → first_below Child k ≡ Ok tt
+  turn_at k t e = ap (λ (x : Option ℕ). first_below Child (unwrap_or x n)) (sym e) ∙ t.0
+
+  pub turn_end : {next : Option ℕ} → Turn next → next ≡ None → first_below Child n ≡ Ok tt
+  turn_end t e = ap (λ (x : Option ℕ). first_below Child (unwrap_or x n)) (sym e) ∙ t.0
 
   -- ---- above the slots
 

@@ -63,10 +63,10 @@ fn has_mark_above(m: u64) -> bool
 fn children_test(l: &Links, i: usize, m: u64) -> Result<(), ValidationError>
     ensures { result ≡ first_below (child_test slot_count (marked l.now.live) (number_in l.now.parents) i m) mark_count }
 {
-    let mut k = children::next(m, 0);
-    while k < MAX_HANDLES {
+    let mut next = children::next(m, 0);
+    while let Some(k) = next {
         child_test(l, i, k)?;
-        k = children::next(m, k + 1);
+        next = children::next(m, k + 1);
     }
     if has_mark_above(m) {
         return Err(ValidationError::ChildDoesNotExist);

@@ -1,5 +1,5 @@
 -- The search below a slot and from the roots, one law for each way out; and the last tests. Assumes nothing.
-use Rattle.std.specs.Prelude.{Ok, Err}
+use Rattle.std.specs.Prelude.{Option, Some, None, unwrap_or, Ok, Err}
 use mathlib.Core.Bool.{Bool, true, false, not, cond, ◌&&◌, ◌||◌}
 use mathlib.Core.Logic.{inl, inr}
 use mathlib.Core.Path.{◌≡◌, refl, sym, ap, ◌∙◌}
@@ -12,10 +12,10 @@ use borrow.Author.Tests.{lt-ltb, le-ltb, eq-eqb, ne_eqb}
 use Rattle.error.specs.declared.ValidationError.{ValidationError}
 use Rattle.error.specs.declared.ValidationError.TheVariants.{MultipleNormalConnectedComponents, CyclesInTree, MixedContextTypeConnectedComponents}
 use Rattle.children.specs.Below.{count, every}
-use Rattle.children.specs.Marks.{slot_count, mark_count, marked, has_below, with, without, count_below, next_below}
+use Rattle.children.specs.Marks.{slot_count, mark_count, marked, has_below, with, without, count_below, next_below, next_of}
 use Rattle.children.proofs.Cases.{two, clash}
 use Rattle.children.proofs.Below.{low_ge, low-le, low_bare, count_none, count-some, count_hit, count_miss, count-le, every-at, at_every}
-use Rattle.children.proofs.Marks.{has-is, seen, marked-without, next-marked}
+use Rattle.children.proofs.Marks.{has-is, seen, marked-without, next-low, next-some}
 use Rattle.context.specs.Bytes.{byte_of}
 use Rattle.context.specs.Context.{no_parent}
 use Rattle.forest.specs.Links.{Table}
@@ -68,18 +68,24 @@ module _ (rec : ℕ → ℕ → Verdict) (m : ℕ → Bool) (z : ℕ) where
     | no ne ↦ ap (each rec m z) (sym (add-one b)) ∙ each_none b w (skip a b w (omega arith) (λ j l u. q j l (omega arith)) e) (q b (omega arith) (omega arith))
   ]
 
-  -- what holds at each turn, where the members below n are the marks of kids
-  abbrev pub Turn : ℕ → ℕ → ℕ → Type 0
-  Turn n met k = (k ≤ n) × (each rec m z k ≡ fine met) × (k < n → m k ≡ true)
+  -- what holds at each turn, where the members below n are the marks of kids: those before the next one are searched
+  abbrev pub Turn : ℕ → ℕ → Option ℕ → Type 0
+  Turn n met next = (each rec m z (unwrap_or next n) ≡ fine met) × ((k : ℕ) → next ≡ Some k → (k < n) × (m k ≡ true))
 
-  pub turn_on : (n kids k r w : ℕ) → ((j : ℕ) → j < n → m j ≡ marked kids j) → k ≤ n → each rec m z k ≡ fine w → r ≡ next_below n kids k → Turn n w r
-  turn_on n kids k r w f h e q =
-      let ge = low_ge (marked kids) (n - k) k in
+  pub turn_on : (n kids k w : ℕ) {next : Option ℕ} → ((j : ℕ) → j < n → m j ≡ marked kids j) → k ≤ n → each rec m z k ≡ fine w → next ≡ next_of n kids k → Turn n w next
+  turn_on n kids k w f h e q =
       let le = low-le (marked kids) (n - k) k in (
-        omega arith,
-        ap (each rec m z) q ∙ skip k (next_below n kids k) w ge (λ j a b. f j (omega arith) ∙ low_bare (marked kids) (n - k) k j a b) e,
-        λ l. f r l ∙ next-marked n kids k r h q l,
+        ap (each rec m z) (next-low n kids k h q)
+            ∙ skip k (next_below n kids k) w (low_ge (marked kids) (n - k) k) (λ j a b. f j (omega arith) ∙ low_bare (marked kids) (n - k) k j a b) e,
+        λ r s. let b = next-some n kids k r q s in (b.2, f r b.2 ∙ b.3),
       )
+
+  -- the search before the member k; and the whole search, where no member is left
+  pub turn_at : {n met : ℕ} {next : Option ℕ} (k : ℕ) → Turn n met next → next ≡ Some k → each rec m z k ≡ fine met
+  turn_at {n} k t e = ap (λ (x : Option ℕ). each rec m z (unwrap_or x n)) (sym e) ∙ t.0
+
+  pub turn_end : {n met : ℕ} {next : Option ℕ} → Turn n met next → next ≡ None → each rec m z n ≡ fine met
+  turn_end {n} t e = ap (λ (x : Option ℕ). each rec m z (unwrap_or x n)) (sym e) ∙ t.0
 
 -- ---- at a slot
 

@@ -39,10 +39,10 @@ fn detect_invalid_subtree(
     }
     let mut met = children::with(seen, slot);
     let kids = l.children[slot];
-    let mut k = children::next(kids, 0);
-    while k < MAX_HANDLES {
+    let mut next = children::next(kids, 0);
+    while let Some(k) = next {
         met = detect_invalid_subtree(l, kind, met, k, depth - 1)?;
-        k = children::next(kids, k + 1);
+        next = children::next(kids, k + 1);
     }
     Ok(met)
 }

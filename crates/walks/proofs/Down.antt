@@ -1,13 +1,11 @@
 -- How the walk down goes on, from mark to mark, and what is told of it. Assumes nothing.
 use Rattle.std.specs.Prelude.{Ok}
-use mathlib.Core.Bool.{Bool, true, false, cond, not}
-use mathlib.Core.Path.{◌≡◌, sym, ap, ◌∙◌}
+use mathlib.Core.Bool.{Bool, true, false, cond}
+use mathlib.Core.Path.{◌≡◌, ap, ◌∙◌}
 use Prim.Native.Nat.{ℕ, suc, ◌-◌}
 use native.Mathlib.Omega.{arith}
 use Rattle.error.specs.declared.DpeErrorCode.{DpeErrorCode}
 use Rattle.children.specs.Marks.{marked, with}
-use Rattle.context.specs.declared.ContextState.{ContextState}
-use Rattle.context.specs.Context.{is_inactive, is_live}
 use Rattle.forest.specs.Walk.{Answer, loops, bad, ok, over, walk_down}
 use Rattle.forest.specs.Told.{told_of}
 

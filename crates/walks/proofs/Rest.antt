@@ -1,5 +1,5 @@
 -- The rest of a walk down: the answers for the children from one on, and what they are worth beside the marks found before. Assumes nothing.
-use Rattle.std.specs.Prelude.{Err}
+use Rattle.std.specs.Prelude.{Option, Some, None, Err}
 use mathlib.Core.Bool.{Bool, true, false, cond}
 use mathlib.Core.Logic.{inl, inr}
 use mathlib.Core.Path.{◌≡◌, refl, sym, ap, ◌∙◌}
@@ -9,10 +9,10 @@ use native.Mathlib.Omega.{arith}
 use lib.Bits.{or_zero_r}
 use Rattle.error.specs.declared.DpeErrorCode.{DpeErrorCode}
 use Rattle.children.specs.Below.{lowest_from}
-use Rattle.children.specs.Marks.{marked, with, joined, next_below}
+use Rattle.children.specs.Marks.{marked, with, joined, next_below, next_of}
 use Rattle.children.proofs.Below.{low_ge, low-le, low_bare}
 use Rattle.children.proofs.Cases.{two}
-use Rattle.children.proofs.Marks.{joined_assoc, next-marked}
+use Rattle.children.proofs.Marks.{joined_assoc, next-some, next-none}
 use Rattle.forest.specs.Walk.{Answer, loops, bad, ok, both, over, walk_down}
 use Rattle.forest.specs.Told.{told_of}
 use Rattle.walks.proofs.Down.{child, walk-over}
@@ -112,31 +112,30 @@ module _ (rec : ℕ → Answer) (m : ℕ) where
 
 -- ---- a turn of the loop over the children
 
--- k is a child and r the next one, and the marks found, with the rest from k on, are worth a
-pub record Turn (rec : ℕ → Answer) (m n k r f : ℕ) (a : Answer) : Type 0 where
+-- k is a child, and the marks found, with the rest from k on, are worth a
+pub record Turn (rec : ℕ → Answer) (m n k f : ℕ) (a : Answer) : Type 0 where
   pub below : k < n
   pub marks : marked m k ≡ true
-  pub next : r ≡ next_below n m (k + 1)
   pub worth : both (ok f) (rest rec m (n - k) k) ≡ a
 
 -- a child that is refused ends the walk
-pub turn_refused : (e : DpeErrorCode) {rec : ℕ → Answer} {m n k r f : ℕ} {a : Answer} {x : DpeErrorCode} → Turn rec m n k r f a → told_of e (rec k) ≡ Err x → told_of e a ≡ Err x
-turn_refused e {rec} {m} {n} {k} {r} {f} {a} {x} t q =
-    ap (told_of e) (sym t.worth ∙ rest_on rec m n k r f t.below t.marks t.next) ∙ refused_on e x f (rec k) _ q
+pub turn_refused : (e : DpeErrorCode) {rec : ℕ → Answer} {m n k f : ℕ} {a : Answer} {x : DpeErrorCode} → Turn rec m n k f a → told_of e (rec k) ≡ Err x → told_of e a ≡ Err x
+turn_refused e {rec} {m} {n} {k} {f} {a} {x} t q =
+    ap (told_of e) (sym t.worth ∙ rest_on rec m n k (next_below n m (k + 1)) f t.below t.marks refl) ∙ refused_on e x f (rec k) _ q
 
 -- the marks of a child are joined, and the rest goes on from the next one
-pub turn_on : {rec : ℕ → Answer} {m n k r f v g s : ℕ} {a : Answer} → Turn rec m n k r f a → rec k ≡ ok v → g ≡ joined f v → r < n → s ≡ next_below n m (r + 1) → Turn rec m n r s g a
-turn_on {rec} {m} {n} {k} {r} {f} {v} {g} {s} t q j h i = record {
-  below = h;
-  marks = next-marked n m (k + 1) r (let o = t.below in omega arith) t.next h;
-  next = i;
-  worth = ap (λ (x : ℕ). both (ok x) (rest rec m (n - r) r)) j ∙ sym (ap (λ (x : Answer). both (both (ok f) x) (rest rec m (n - r) r)) q)
-      ∙ sym (rest_on rec m n k r f t.below t.marks t.next) ∙ t.worth;
-}
+pub turn_on : {rec : ℕ → Answer} {m n k r f v g : ℕ} {o : Option ℕ} {a : Answer} → Turn rec m n k f a → rec k ≡ ok v → g ≡ joined f v → o ≡ next_of n m (k + 1) → o ≡ Some r → Turn rec m n r g a
+turn_on {rec} {m} {n} {k} {r} {f} {v} {g} t q j i s =
+    let h = next-some n m (k + 1) r i s in record {
+      below = h.2;
+      marks = h.3;
+      worth = ap (λ (x : ℕ). both (ok x) (rest rec m (n - r) r)) j ∙ sym (ap (λ (x : Answer). both (both (ok f) x) (rest rec m (n - r) r)) q)
+          ∙ sym (rest_on rec m n k r f t.below t.marks h.0) ∙ t.worth;
+    }
 
 -- the last child's answer is all that is left
-pub turn_last : {rec : ℕ → Answer} {m n k r f : ℕ} {a : Answer} → Turn rec m n k r f a → n ≤ r → both (ok f) (rec k) ≡ a
-turn_last {rec} {m} {n} {k} {r} {f} t l = sym (rest_last rec m n k r f t.below t.marks t.next l) ∙ t.worth
+pub turn_last : {rec : ℕ → Answer} {m n k f : ℕ} {o : Option ℕ} {a : Answer} → Turn rec m n k f a → o ≡ next_of n m (k + 1) → o ≡ None → both (ok f) (rec k) ≡ a
+turn_last {rec} {m} {n} {k} {f} t i s = sym (rest_last rec m n k _ f t.below t.marks refl (next-none n m (k + 1) i s)) ∙ t.worth
 
 -- ---- at a slot
 
@@ -155,15 +154,15 @@ rest_begins n d live kids path slot down m f g r p h e q i j =
     ∙ ap (both (ok g)) (ap (λ (x : ℕ). rest c m x 0) y ∙ rest-next c m n 0 r (omega arith) j)
 
 -- a slot with no child ends the walk, and a first child begins the loop
-module _ (n d : ℕ) (live : ℕ → Bool) (kids : ℕ → ℕ) (path slot down m f g r : ℕ) {a : Answer} (w : both (ok f) (walk_down n live kids d path slot) ≡ a)
-    (h : d ≡ 0 → ⊥) (e : live slot ≡ true) (p : down ≡ with path slot) (q : m ≡ kids slot) (i : g ≡ joined f m) (j : r ≡ next_below n m 0) where
-  pub slot-alone : n ≤ r → a ≡ ok g
-  slot-alone l = sym w ∙ rest_begins n d live kids path slot down m f g r p h e q i j ∙ rest_none (child n live kids (d - 1) down) m n r g l
+module _ (n d : ℕ) (live : ℕ → Bool) (kids : ℕ → ℕ) (path slot down m f g : ℕ) {o : Option ℕ} {a : Answer} (w : both (ok f) (walk_down n live kids d path slot) ≡ a)
+    (h : d ≡ 0 → ⊥) (e : live slot ≡ true) (p : down ≡ with path slot) (q : m ≡ kids slot) (i : g ≡ joined f m) (j : o ≡ next_of n m 0) where
+  pub slot-alone : o ≡ None → a ≡ ok g
+  slot-alone s = sym w ∙ rest_begins n d live kids path slot down m f g _ p h e q i refl ∙ rest_none (child n live kids (d - 1) down) m n _ g (next-none n m 0 j s)
 
-  pub turn-first : (s : ℕ) → r < n → s ≡ next_below n m (r + 1) → Turn (child n live kids (d - 1) down) m n r s g a
-  turn-first s l k = record {
-    below = l;
-    marks = next-marked n m 0 r (omega arith) j l;
-    next = k;
-    worth = sym (rest_begins n d live kids path slot down m f g r p h e q i j) ∙ w;
-  }
+  pub turn-first : (r : ℕ) → o ≡ Some r → Turn (child n live kids (d - 1) down) m n r g a
+  turn-first r s =
+      let b = next-some n m 0 r j s in record {
+        below = b.2;
+        marks = b.3;
+        worth = sym (rest_begins n d live kids path slot down m f g r p h e q i b.0) ∙ w;
+      }

@@ -30,19 +30,16 @@ pub fn descend<T: Slots>(t: &T, path: u64, slot: usize, depth: usize) -> Result<
         left -= 1;
         let kids = t.children_at(at);
         found = children::add_children(found, kids);
-        let mut k = children::next(kids, 0);
-        if k >= MAX_HANDLES {
+        let Some(mut k) = children::next(kids, 0) else {
             return Ok(found);
-        }
-        let mut after = children::next(kids, k + 1);
-        while after < MAX_HANDLES {
+        };
+        while let Some(after) = children::next(kids, k + 1) {
             if children::has_child(down, k) {
                 return Err(DpeErrorCode::Added(AddedErrorCode::WalkLoops));
             }
             let m = descend(t, down, k, left)?;
             found = children::add_children(found, m);
             k = after;
-            after = children::next(kids, k + 1);
         }
         if children::has_child(down, k) {
             return Err(DpeErrorCode::Added(AddedErrorCode::WalkLoops));

@@ -1,3 +1,4 @@
+use Rattle.std.specs.Prelude.{unwrap_or}
 use Prim.Native.Nat.{◌-◌}
 use Rattle.children.specs.Marks.{slot_count}
 use Rattle.forest.specs.Search.{visit}
@@ -8,9 +9,9 @@ use Rattle.validation_trees.proofs.+detect_invalid_subtree.Given as goal
 abbrev pub decreases-detect_invalid_subtree : goal.decreases-detect_invalid_subtree
 decreases-detect_invalid_subtree v = v.depth
 
-abbrev pub invariant-loop-k : goal.invariant-loop-k
-invariant-loop-k v =
-    Turn (visit slot_count (table_by v.l) (kind_in v.l.simulations) v.kind (v.depth - 1)) ((table_by v.l).mark v.slot) v.initial.met slot_count v.met v.k
+abbrev pub invariant-loop-next : goal.invariant-loop-next
+invariant-loop-next v =
+    Turn (visit slot_count (table_by v.l) (kind_in v.l.simulations) v.kind (v.depth - 1)) ((table_by v.l).mark v.slot) v.initial.met slot_count v.met v.next
 
-abbrev pub decreases-loop-k : goal.decreases-loop-k
-decreases-loop-k v = slot_count - v.k
+abbrev pub decreases-loop-next : goal.decreases-loop-next
+decreases-loop-next v = slot_count - unwrap_or v.next slot_count

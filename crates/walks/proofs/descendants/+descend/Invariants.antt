@@ -15,8 +15,7 @@ decreases-descend g l = l.depth
 abbrev pub invariant-loop-after : goal.invariant-loop-after
 invariant-loop-after g l =
     let s = slot_of (g.T.Slots.state l.t).contexts in
-    (l.k < slot_count)
-    × Turn (child slot_count (live_at s) (kids_at s) l.left l.down) l.kids slot_count l.k l.after l.found (walk_down slot_count (live_at s) (kids_at s) l.depth l.path l.slot)
+    Turn (child slot_count (live_at s) (kids_at s) l.left l.down) l.kids slot_count l.k l.found (walk_down slot_count (live_at s) (kids_at s) l.depth l.path l.slot)
 
 abbrev pub decreases-loop-after : goal.decreases-loop-after
 decreases-loop-after g l = slot_count - l.k
