@@ -43,10 +43,3 @@ pub fn links_of<T: Slots>(t: &T) -> Links
         simulations,
     }
 }
-
-// The number that a parent byte says.
-pub fn index(x: u8) -> usize
-    ensures { result ≡ x }
-{
-    x as usize
-}

@@ -45,7 +45,6 @@ use Rattle.links.proofs.links_of.Reads as links-links-of-reads
 use Rattle.walks.proofs.descendants.descend.Reads as walks-descendants-descend-reads
 use Rattle.walks.proofs.descendants.get_descendants.Reads as walks-descendants-get-descendants-reads
 use Rattle.walks_path.proofs.root_to_leaf.Reads as walks-path-root-to-leaf-reads
-use Rattle.links.proofs.index.Reads as links-index-reads
 use Rattle.walks_run.proofs.run_above.Reads as walks-run-run-above-reads
 use Rattle.wire.proofs.read_u16.Reads as wire-read-u16-reads
 use Rattle.wire.proofs.read_u32.Reads as wire-read-u32-reads
@@ -243,9 +242,6 @@ walks-descendants-get_descendants T l t d κ a r r' s s' = one
 
 pub walks_path-root_to_leaf : (T : _) (l : _) (t : _) (d : _) → OneResult (walks-path-root-to-leaf-reads.Post T l t d)
 walks_path-root_to_leaf T l t d κ a r r' s s' = one
-
-pub links-index : OneResult links-index-reads.Post
-links-index κ a r r' s s' = one
 
 pub walks_run-run_above : (T : _) (l : _) (t : _) (d : _) → OneResult (walks-run-run-above-reads.Post T l t d)
 walks_run-run_above T l t d κ a r r' s s' = one

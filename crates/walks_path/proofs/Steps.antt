@@ -1,7 +1,7 @@
 -- How a path is found and laid out. Assumes nothing.
 use Rattle.std.specs.Prelude.{Ok, Err, reverse}
 use Rattle.std.proofs.lemmas.List.{get_or_append_left, get_or-reverse}
-use mathlib.Core.Bool.{Bool, true, false, cond, not, ◌&&◌, ◌||◌}
+use mathlib.Core.Bool.{Bool, true, false, cond, ◌&&◌, ◌||◌}
 use mathlib.Core.List.{List, ◌++◌}
 use mathlib.Core.Logic.{inl, inr}
 use mathlib.Core.Path.{◌≡◌, sym, ap, ◌∙◌}
@@ -19,8 +19,7 @@ use Rattle.error.specs.declared.InternalErrorCode.TheVariants.{ContextIndexOob, 
 use Rattle.children.specs.Below.{list_of}
 use Rattle.children.proofs.Below.{length-list_of, list_of-at, list_of_same}
 use Rattle.children.proofs.Cases.{two, ltb-true}
-use Rattle.context.specs.declared.ContextState.{ContextState}
-use Rattle.context.specs.Context.{no_parent, is_inactive, is_live}
+use Rattle.context.specs.Context.{no_parent}
 use Rattle.links.specs.Summary.{steps_up}
 use Rattle.walks_path.specs.Path.{parent_of, onward, length_from, slots_of, laid_of, path_of}
 

@@ -31,10 +31,10 @@ fn parent_of<T: Slots>(t: &T, slot: usize) -> Result<usize, DpeErrorCode>
         return Err(DpeErrorCode::InvalidHandle);
     }
     let p = t.parent_at(slot);
-    if p != ROOT_INDEX && links::index(p) >= MAX_HANDLES {
+    if p != ROOT_INDEX && usize::from(p) >= MAX_HANDLES {
         return Err(DpeErrorCode::InvalidHandle);
     }
-    Ok(links::index(p))
+    Ok(usize::from(p))
 }
 
 // The path from the root down to a slot. Each parent is read once: the slots are met from the slot itself on, and turned round at the root.
@@ -46,7 +46,7 @@ pub fn root_to_leaf<T: Slots>(t: &T, slot: usize) -> Result<Path, DpeErrorCode>
     for j in 0..MAX_HANDLES {
         let p = parent_of(t, x)?;
         slots[j] = x as u8;
-        if p == links::index(ROOT_INDEX) {
+        if p == usize::from(ROOT_INDEX) {
             slots[..=j].reverse();
             return Ok(Path {
                 length: j + 1,

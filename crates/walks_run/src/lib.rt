@@ -20,7 +20,7 @@ pub fn run_above<T: Slots>(t: &T, start: u8) -> Result<u64, DpeErrorCode>
     let mut taken = children::empty();
     let mut p = start;
     for d in 0..MAX_HANDLES {
-        let i = links::index(p);
+        let i = usize::from(p);
         if i >= MAX_HANDLES {
             if p == ROOT_INDEX {
                 return Ok(taken);

@@ -26,11 +26,11 @@ overflow_cast-slots g c =
     let h = (parent_from _ _ _ c.loop-j.x _ (sym c.in_ok-p.ensures)).0 in
     omega arith
 
-pub returns-then-p-index : goal.returns-then-p-index
-returns-then-p-index g c =
+pub returns-then-p-from : goal.returns-then-p-from
+returns-then-p-from g c =
     let l = c.loop-j in
     let i = l.invariant in
-    path-laid _ _ _ _ (slot_count - l.j) l.j l.x i.1 _ _ (omega arith) (sym c.in_ok-p.ensures) (c.if-p-index.true ∙ c.index.ensures)
+    path-laid _ _ _ _ (slot_count - l.j) l.j l.x i.1 _ _ (omega arith) (sym c.in_ok-p.ensures) (c.if-p-from.true ∙ c.from.ensures)
     (turned _ slot_count (l.j + 1) _ _ (omega arith) (met_more _ slot_count l.j _ l.slots (omega arith) i.2 i.3) c.reverse.ensures.after)
 
 pub loop-j-preserved : goal.loop-j-preserved
@@ -44,7 +44,7 @@ loop-j-preserved g c =
     let q = sym c.in_ok-p.ensures in (
       omega arith,
       ap (λ (x : ℕ). length_from slot_count (live_at s) (parent_at s) x (l.j + 1) p) (omega arith)
-          ∙ sym (length_on _ _ _ l.x (slot_count - l.j) l.j _ (omega arith) q (λ z. c.if-p-index.false (z ∙ sym c.index.ensures))) ∙ i.1,
+          ∙ sym (length_on _ _ _ l.x (slot_count - l.j) l.j _ (omega arith) q (λ z. c.if-p-from.false (z ∙ sym c.from.ensures))) ∙ i.1,
       sym (parent_from slot_count (live_at s) (parent_at s) l.x p q).1 ∙ ap (parent_at s) i.2 ∙ sym (ap up (add-one l.j)),
       met_more up slot_count l.j _ l.slots (omega arith) i.2 i.3,
     )

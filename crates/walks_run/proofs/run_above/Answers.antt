@@ -14,14 +14,14 @@ pub returns-then-p : goal.returns-then-p
 unfolding told_of run_from
 returns-then-p g c =
     let l = c.loop-d in
-    let i = c.index-i.ensures in
+    let i = c.from-i.ensures in
     sym (ap (told_of _) (l.invariant.1 ∙ climb-top slot_count _ _ (slot_count - l.d) (omega arith) _ l.p (omega arith) c.if-p.true))
 
 pub returns-then-i-ge-MAX_HANDLES : goal.returns-then-i-ge-MAX_HANDLES
 unfolding told_of run_from
 returns-then-i-ge-MAX_HANDLES g c =
     let l = c.loop-d in
-    let i = c.index-i.ensures in
+    let i = c.from-i.ensures in
     sym (ap (told_of _) (l.invariant.1 ∙ climb_out slot_count _ _ (slot_count - l.d) (omega arith) _ l.p (omega arith) c.if-p.false))
 
 pub returns-then-not-is_retired : goal.returns-then-not-is_retired
@@ -30,7 +30,7 @@ returns-then-not-is_retired g c =
     let l = c.loop-d in
     let a = c.args in
     let s = slot_of (g.T.Slots.state a.t.now).contexts in
-    let i = c.index-i.ensures in
+    let i = c.from-i.ensures in
     let h : l.p < slot_count = omega arith in
     let off = retired_told s i c.state_at.ensures c.is_retired.ensures c.if-not-is_retired.true in
     sym (ap (told_of _) (l.invariant.1 ∙ climb-ends slot_count _ _ (slot_count - l.d) (omega arith) _ l.p h (single-other slot_count (retired_at s) (kids_at s) l.p off)))
@@ -41,7 +41,7 @@ returns-then-count-ne1 g c =
     let l = c.loop-d in
     let a = c.args in
     let s = slot_of (g.T.Slots.state a.t.now).contexts in
-    let i = c.index-i.ensures in
+    let i = c.from-i.ensures in
     let h : l.p < slot_count = omega arith in
     let on = retired_told s i c.state_at.ensures c.is_retired.ensures c.if-not-is_retired.false in
     let kids = c.children_at.ensures ∙ ap (kids_at s) i in
@@ -53,7 +53,7 @@ loop-d-preserved g c =
     let l = c.loop-d in
     let a = c.args in
     let s = slot_of (g.T.Slots.state a.t.now).contexts in
-    let i = c.index-i.ensures in
+    let i = c.from-i.ensures in
     let h : l.p < slot_count = omega arith in
     let on = retired_told s i c.state_at.ensures c.is_retired.ensures c.if-not-is_retired.false in
     let kids = c.children_at.ensures ∙ ap (kids_at s) i in
