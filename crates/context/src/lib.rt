@@ -132,6 +132,7 @@ impl Context {
     }
 
     // The marks of the context with one more. They are answered, and not stored.
+    #[tactic(auto, unfolding(crate::specs::Context::with_child_of))]
     pub fn add_child(self, idx: usize) -> Result<u64, DpeErrorCode>
         ensures { result ≡ with_child_of slot_count self.children idx }
     {
