@@ -50,6 +50,7 @@ pub fn kind_at(image: &[u8], at: usize) -> u32
 }
 
 // Whether the words of all contexts, joined, are those of good ones.
+#[tactic(auto, unfolding(crate::specs::Kinds::good_word))]
 pub fn are_good_kinds(word: u32) -> bool
     ensures { result ≡ good_word word }
 {
