@@ -7,7 +7,7 @@ use Rattle.context.specs.declared.ContextState.TheVariants.{Inactive, Active, Re
 use Rattle.context.specs.declared.ContextType.{ContextType}
 use Rattle.context.specs.declared.ContextType.TheVariants.{Normal, Simulation}
 use Rattle.context.specs.declared.Context.{Context}
-use Rattle.image_kinds.specs.Kinds.{context_size, type_byte_in, state_byte_in}
+use Rattle.image_kinds.specs.Kinds.{type_byte_in, state_byte_in}
 
 -- the state that a byte says, and the byte of a state
 unfoldable pub state_of : ℕ → ContextState

@@ -41,6 +41,7 @@ pub const ALLOW_EXPORT_CDI_AT: usize = 142;
 pub const ALLOW_RECURSIVE_AT: usize = 143;
 
 // The state that a byte says; only 0, 1 and 2 are ever asked for. Total and no TryFrom, as the definition is: image_kinds refuses other bytes before.
+#[tactic(auto, using(crate::proofs::Fields::state_rest), unfolding(crate::specs::Context::state_of))]
 pub fn state_of(b: u8) -> ContextState
     ensures { result ≡ state_of b }
 {
@@ -52,6 +53,7 @@ pub fn state_of(b: u8) -> ContextState
 }
 
 // The type that a byte says; only 0 and 1 are ever asked for. Total, as `state_of` is.
+#[tactic(auto, using(crate::proofs::Fields::type_rest), unfolding(crate::specs::Context::type_of))]
 pub fn type_of(b: u8) -> ContextType
     ensures { result ≡ type_of b }
 {
@@ -62,6 +64,7 @@ pub fn type_of(b: u8) -> ContextType
 }
 
 // The measurements of a context.
+#[tactic(auto, unfolding(crate::specs::Context::decode_tci))]
 fn read_tci(s: &[u8]) -> TciNodeData
     requires { length s.now ≡ context_size }
     ensures { result ≡ decode_tci s.now }
@@ -81,6 +84,7 @@ fn read_tci(s: &[u8]) -> TciNodeData
 }
 
 // The context of these bytes, whatever its state and type bytes are.
+#[tactic(auto, unfolding(crate::specs::Context::decode_context))]
 pub fn read_context(s: &[u8]) -> Context
     requires { length s.now ≡ context_size }
     ensures { result ≡ decode_context s.now }
