@@ -38,6 +38,7 @@ fn are_good(image: &[u8]) -> bool
 }
 
 // Whether the image reads.
+#[tactic(auto, using(crate::proofs::Reading::is_whole, crate::proofs::Reading::is_short))]
 pub fn is_readable(image: &[u8]) -> bool
     ensures { result ≡ is_readable image.now }
 {
@@ -48,6 +49,7 @@ pub fn is_readable(image: &[u8]) -> bool
 }
 
 // The first refusal of an image, slot by slot.
+#[tactic(auto, using(crate::proofs::Reading::read_short, crate::proofs::Reading::slots_on), unfolding(crate::specs::State::slots_answer))]
 fn first_refusal(image: &[u8]) -> Result<(), DpeErrorCode>
     ensures { result ≡ readable_of image.now }
 {
@@ -61,6 +63,7 @@ fn first_refusal(image: &[u8]) -> Result<(), DpeErrorCode>
 }
 
 // What reading the image answers; nothing is built. The quick test comes first, and why an image does not read is looked for after it.
+#[tactic(auto, using(crate::proofs::Reading::readable_done))]
 pub fn readable(image: &[u8]) -> Result<(), DpeErrorCode>
     ensures { result ≡ readable_of image.now }
 {
