@@ -24,45 +24,55 @@ pub fn read(image: &[u8]) -> Result<&Image, DpeErrorCode>
 impl Slots for Image {
     ghost state = { decode_state };
 
+    #[tactic(auto, unfolding(image::specs::State::decode_state))]
     fn marker(&self) -> u32 {
         wire::read_u32(self, state::MARKER_AT)
     }
 
+    #[tactic(auto, unfolding(image::specs::State::decode_state))]
     fn version(&self) -> u32 {
         wire::read_u32(self, state::VERSION_AT)
     }
 
+    #[tactic(auto, unfolding(image::specs::State::decode_state))]
     fn support(&self) -> u32 {
         wire::read_u32(self, state::SUPPORT_AT)
     }
 
+    #[tactic(auto, unfolding(image::specs::State::decode_state))]
     fn has_initialized(&self) -> u8 {
         self[state::HAS_INITIALIZED_AT]
     }
 
+    #[tactic(auto, using(crate::proofs::Read::state_read))]
     fn state_at(&self, i: usize) -> ContextState {
         image_context::state_of(self[CONTEXTS_AT + image_context::SIZE * i + image_kinds::STATE_AT])
     }
 
+    #[tactic(auto, using(crate::proofs::Read::type_read))]
     fn context_type_at(&self, i: usize) -> ContextType {
         let at = CONTEXTS_AT + image_context::SIZE * i;
         image_context::type_of(self[at + image_kinds::CONTEXT_TYPE_AT])
     }
 
+    #[tactic(auto, using(crate::proofs::Read::locality_read))]
     fn locality_at(&self, i: usize) -> u32 {
         let at = CONTEXTS_AT + image_context::SIZE * i;
         wire::read_u32(self, at + image_context::LOCALITY_AT)
     }
 
+    #[tactic(auto, using(crate::proofs::Read::parent_read))]
     fn parent_at(&self, i: usize) -> u8 {
         self[CONTEXTS_AT + image_context::SIZE * i + image_context::PARENT_IDX_AT]
     }
 
+    #[tactic(auto, using(crate::proofs::Read::children_read))]
     fn children_at(&self, i: usize) -> u64 {
         let at = CONTEXTS_AT + image_context::SIZE * i;
         wire::read_u64(self, at + image_context::CHILDREN_AT)
     }
 
+    #[tactic(auto, using(crate::proofs::Read::handle_read))]
     fn handle_at(&self, i: usize) -> [u8; handle::SIZE] {
         let at = CONTEXTS_AT + image_context::SIZE * i;
         wire::read_array(self, at + image_context::HANDLE_AT)
