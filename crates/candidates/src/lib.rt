@@ -31,6 +31,7 @@ fn has_handle<T: Slots>(t: &T, i: usize, h: [u8; handle::SIZE]) -> bool
 }
 
 // The first usable candidate: not all zero, and the handle of no slot.
+#[tactic(auto, using(crate::proofs::Candidates::turn_short, crate::proofs::Candidates::turn_on, crate::proofs::Candidates::usables, children::proofs::Below::some_next, children::proofs::Cases::or_none), unfolding(children::specs::Below::some))]
 pub fn generate_new_handle<T: Slots>(
     t: &T,
     candidates: &[u8],
