@@ -1,23 +1,23 @@
 -- Laws of the lookup: what a slot that was found satisfies, what each refusal says, and that only the slots below n count. Assumes nothing.
 use Rattle.std.specs.Prelude.{Result, Ok, Err}
-use mathlib.Core.Path.{◌≡◌, refl, sym, ap, ap₂, ◌∙◌}
+use mathlib.Core.Path.{◌≡◌, refl, sym, ◌∙◌}
 use mathlib.Core.Logic.{◌⊎◌, inl, inr, ◌↔◌}
-use mathlib.Core.Bool.{Bool, true, false, cond, ◌||◌}
+use mathlib.Core.Bool.{Bool, true, false, ◌||◌}
 use mathlib.Core.List.{List}
 use Prim.Native.Nat.{ℕ, ◌+◌, ◌-◌, ◌≤◌, ◌<◌}
 use native.Mathlib.Decide.{dec_lt}
 use native.Mathlib.Omega.{arith}
 use borrow.Author.Tests.{lt-ltb, le-ltb}
-use lib.Dec.{ltb}
 use Rattle.error.specs.declared.DpeErrorCode.{DpeErrorCode}
 use Rattle.error.specs.declared.DpeErrorCode.TheVariants.{InvalidHandle, InvalidLocality}
 use Rattle.children.specs.Below.{some, lowest_from, lowest}
 use Rattle.children.proofs.Cases.{two, clash, order, and-true, and_both, and_left, eqb-true, true-eqb}
-use Rattle.children.proofs.Below.{low-here, low_on, low_end, low_bare, low_passes, low_same, of_some, some_of, none-at, some_same}
+use Rattle.table.proofs.Slots.{free-at}
+use Rattle.children.proofs.Below.{count-le, low-here, low_on, low_end, low_bare, low_passes, of_some, some_of, none-at}
 use Rattle.context.specs.declared.Context.{Context}
 use Rattle.context.specs.Context.{is_active}
 use Rattle.context.proofs.Bytes.{same_iff}
-use Rattle.lookup.specs.Lookup.{active_of, active_in, is_target, lookup_in}
+use Rattle.lookup.specs.Lookup.{active_in, is_target, lookup_in}
 
 -- slot i is what the lookup of h and l has to find: a slot, active, of the locality, with the handle, and the lowest such
 pub record Target (n : ℕ) (s : ℕ → Context) (h : List ℕ) (l i : ℕ) : Type 0 where
@@ -159,10 +159,8 @@ module _ (n : ℕ) (s : ℕ → Context) (h : List ℕ) (l : ℕ) where
   pub refused_by_lem : (e : DpeErrorCode) → lookup_in n s h l ≡ Err e → (e ≡ InvalidHandle) ⊎ (e ≡ InvalidLocality)
   refused_by_lem e r = ways (λ j b q a. never (sym a ∙ r)) (λ b q a. inl (cc)) (λ b q a. inr (cc))
 
--- only the slots below n count
-pub lookup_same : (n : ℕ) (s s' : ℕ → Context) (h : List ℕ) (l : ℕ) → ((i : ℕ) → i < n → s i ≡ s' i) → lookup_in n s h l ≡ lookup_in n s' h l
-unfolding lookup_in
-lookup_same n s s' h l f =
-    ap₂ (λ (k : ℕ) (b : Bool). cond (ltb k n) (Ok k) (cond b (Err InvalidHandle) (Err InvalidLocality)))
-    (low_same (is_target s h l) (is_target s' h l) n 0 (λ i a b. ap (λ (c : Context). is_target (λ _. c) h l 0) (f i (omega arith))))
-    (some_same (active_in s l) (active_in s' l) n (λ i b. ap (λ (c : Context). active_of c l) (f i b)))
+-- ---- what the calls' attributes cite
+
+pub ruleset counts = (count-le)
+
+pub ruleset lows = (low-here, free-at)

@@ -9,6 +9,7 @@ use error::DpeErrorCode;
 use slots::Slots;
 
 // How many contexts are in a state.
+#[tactic(auto, using(children::proofs::Below::count_hit, children::proofs::Below::count_miss, crate::proofs::Lookup::counts), unfolding(children::specs::Below::count))]
 pub fn count_contexts<T: Slots>(t: &T, state: ContextState) -> usize
     ensures { result ≡ count_in slot_count (contexts_in (T.state t.now)) state }
 {
@@ -22,6 +23,7 @@ pub fn count_contexts<T: Slots>(t: &T, state: ContextState) -> usize
 }
 
 // The lowest inactive slot.
+#[tactic(auto, using(crate::proofs::Lookup::lows, children::proofs::Below::low_on, children::proofs::Below::low_end, table::proofs::Slots::free_none))]
 pub fn get_next_inactive_context_pos<T: Slots>(t: &T) -> Result<usize, DpeErrorCode>
     ensures { result ≡ free_in slot_count (contexts_in (T.state t.now)) }
 {

@@ -21,6 +21,7 @@ pub fn active_in<T: Slots>(t: &T, i: usize, locality: u32) -> bool
 }
 
 // The lowest active slot of the locality with the handle.
+#[tactic(auto, using(crate::proofs::Lookup::turn_on, crate::proofs::Lookup::or_miss, children::proofs::Below::some_next, children::proofs::Cases::and_left, children::proofs::Cases::and_right, children::proofs::Cases::or_right), unfolding(children::specs::Below::some))]
 pub fn get_active_context_pos<T: Slots>(
     t: &T,
     handle: [u8; handle::SIZE],
