@@ -14,6 +14,7 @@ use table::state::{Outcome, State};
 use walks::descendants;
 
 // The slots that go with a slot, as marks: itself, all that is below it, and the run above it. The walk up comes first.
+#[tactic(auto, using(error::proofs::Exits::passed_on), unfolding(crate::specs::Destroy::doomed_of, crate::specs::Destroy::on_run, crate::specs::Destroy::on_down))]
 fn doomed<T: Slots>(t: &T, slot: usize) -> Result<u64, DpeErrorCode>
     ensures { result ≡ doomed_in slot_count (contexts_in (T.state t.now)) slot }
 {
@@ -27,6 +28,7 @@ fn doomed<T: Slots>(t: &T, slot: usize) -> Result<u64, DpeErrorCode>
 }
 
 // Destroys the context of a slot.
+#[tactic(auto, using(crate::proofs::Calls::slot_cleared, slots::proofs::Ends::success))]
 pub fn destroy_slot_on<T: SlotsMut>(t: &mut T, slot: usize) -> Result<(), DpeErrorCode>
     requires { T.Reads t.old }
     ensures { Ends T.state T.Reads t.old t.new result (destroy_slot_of (T.state t.old) slot) }
@@ -37,6 +39,7 @@ pub fn destroy_slot_on<T: SlotsMut>(t: &mut T, slot: usize) -> Result<(), DpeErr
 }
 
 // Destroys the active context of a locality that has a handle.
+#[tactic(auto, using(crate::proofs::Calls::found_at, slots::proofs::Ends::same))]
 pub fn destroy_on<T: SlotsMut>(
     t: &mut T,
     handle: [u8; handle::SIZE],
@@ -50,6 +53,7 @@ pub fn destroy_on<T: SlotsMut>(
 }
 
 // The same by value, of a slot and by handle: the table in, and back.
+#[tactic(auto, using(table::proofs::Sizes::slots, slots::proofs::Ends::by_value))]
 pub fn destroy_slot(t: State, slot: usize) -> Outcome<()>
     ensures { result ≡ destroy_slot_of t slot }
 {
@@ -58,6 +62,7 @@ pub fn destroy_slot(t: State, slot: usize) -> Outcome<()>
     Outcome { answer, state }
 }
 
+#[tactic(auto, using(table::proofs::Sizes::slots, slots::proofs::Ends::by_value))]
 pub fn destroy_context(t: State, handle: [u8; handle::SIZE], locality: u32) -> Outcome<()>
     ensures { result ≡ destroy_of t handle locality }
 {

@@ -111,6 +111,7 @@ pub fn initialize_on<T: SlotsMut>(
 }
 
 // The same by value: the table in, and back.
+#[tactic(auto, using(table::proofs::Sizes::slots, slots::proofs::Ends::by_value))]
 pub fn initialize_context(
     t: State,
     flags: u32,

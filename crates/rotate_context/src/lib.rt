@@ -25,6 +25,7 @@ fn occupies<T: Slots>(t: &T, i: usize, locality: u32, is_target: bool) -> bool
 }
 
 // Whether the locality has an active default, the target included, or an active context other than the target.
+#[tactic(auto, using(crate::proofs::Rotate::occupied_none, crate::proofs::Rotate::occupied_on))]
 fn is_occupied<T: Slots>(t: &T, locality: u32, target_idx: usize) -> bool
     ensures { result ≡ occupied slot_count (contexts_in (T.state t.now)) locality target_idx }
 {
@@ -76,6 +77,7 @@ pub fn rotate_on<T: SlotsMut>(
 }
 
 // The same by value: the table in, and back, which is the form and the meaning of a call.
+#[tactic(auto, using(table::proofs::Sizes::slots, slots::proofs::Ends::by_value))]
 pub fn rotate_context(
     t: State,
     handle: [u8; handle::SIZE],

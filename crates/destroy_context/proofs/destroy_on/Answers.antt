@@ -1,8 +1,8 @@
 -- `destroy_context::destroy_on` meets its contract. Assumes nothing.
 use mathlib.Core.Path.{sym}
 use Rattle.error.proofs.Exits.{passed_on}
-use Rattle.slots.proofs.Ends.{refusal, same}
-use Rattle.destroy_context.proofs.Calls.{not_found, found_at}
+use Rattle.slots.proofs.Ends.{refusal}
+use Rattle.destroy_context.proofs.Calls.{not_found}
 use Rattle.destroy_context.proofs.destroy_on.Goals as goal
 
 pub returns-in_err-slot : goal.returns-in_err-slot
@@ -10,9 +10,3 @@ returns-in_err-slot g c =
     let a = c.args in
     let t = g.T.Slots.state a.t.now in
     refusal g.T.Slots.state g.T.SlotsMut.Reads a.t.now _ (passed_on _ c.from_residual.ensures.1) (not_found t a.handle a.locality _ (sym c.in_err-slot.ensures)) c.requires
-
-pub returns : goal.returns
-returns g c =
-    let a = c.args in
-    let t = g.T.Slots.state a.t.now in
-    same g.T.Slots.state g.T.SlotsMut.Reads a.t.now _ c.destroy_slot_on.ensures (sym (found_at t a.handle a.locality _ (sym c.in_ok-slot.ensures)))

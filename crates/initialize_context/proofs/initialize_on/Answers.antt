@@ -1,27 +1,24 @@
 -- `initialize_context::initialize_on` meets its contract. Assumes nothing.
-use mathlib.Core.Path.{refl, sym, ap, ap₂, ◌∙◌}
-use Prim.Native.Nat.{ℕ}
+use mathlib.Core.Path.{refl, sym, ◌∙◌}
 use Rattle.error.proofs.Exits.{passed_on}
 use Rattle.children.specs.Marks.{slot_count}
 use Rattle.context.specs.Context.{slot_of}
-use Rattle.table.specs.State.{refused_of}
 use Rattle.slots.proofs.Ends.{refusal, same}
-use Rattle.initialize_context.specs.Initialize.{not_supported}
-use Rattle.initialize_context.proofs.Initialize.{free-is, free_refused, not-supported, both_bits, by-slot, default-slot, simulation-slot}
+use Rattle.initialize_context.proofs.Initialize.{tested, free-is, not-supported, both_bits, by-slot, default-slot, simulation-slot}
 use Rattle.initialize_context.proofs.initialize_on.Goals as goal
 
 pub returns-then-not_supported : goal.returns-then-not_supported
 returns-then-not_supported g c =
     let a = c.args in
     let t = g.T.Slots.state a.t.now in
-    let s = ap₂ (λ (w i : ℕ). not_supported w i a.flags) (sym c.support.ensures) (sym c.has_initialized.ensures) ∙ sym c.not_supported.ensures ∙ c.if-not_supported.true in
+    let s = tested t a.flags c.support.ensures c.has_initialized.ensures c.not_supported.ensures c.if-not_supported.true in
     refusal g.T.Slots.state g.T.SlotsMut.Reads a.t.now _ refl (not-supported t a.flags a.locality a.candidates.now s) c.requires
 
 pub returns-then-both_or_neither : goal.returns-then-both_or_neither
 returns-then-both_or_neither g c =
     let a = c.args in
     let t = g.T.Slots.state a.t.now in
-    let s = ap₂ (λ (w i : ℕ). not_supported w i a.flags) (sym c.support.ensures) (sym c.has_initialized.ensures) ∙ sym c.not_supported.ensures ∙ c.if-not_supported.false in
+    let s = tested t a.flags c.support.ensures c.has_initialized.ensures c.not_supported.ensures c.if-not_supported.false in
     let b = sym c.both_or_neither.ensures ∙ c.if-both_or_neither.true in
     refusal g.T.Slots.state g.T.SlotsMut.Reads a.t.now _ refl (both_bits t a.flags a.locality a.candidates.now s b) c.requires
 
@@ -29,7 +26,7 @@ pub returns-in_err-i : goal.returns-in_err-i
 returns-in_err-i g c =
     let a = c.args in
     let t = g.T.Slots.state a.t.now in
-    let s = ap₂ (λ (w i : ℕ). not_supported w i a.flags) (sym c.support.ensures) (sym c.has_initialized.ensures) ∙ sym c.not_supported.ensures ∙ c.if-not_supported.false in
+    let s = tested t a.flags c.support.ensures c.has_initialized.ensures c.not_supported.ensures c.if-not_supported.false in
     let b = sym c.both_or_neither.ensures ∙ c.if-both_or_neither.false in
     refusal g.T.Slots.state g.T.SlotsMut.Reads a.t.now _ (passed_on _ c.from_residual.ensures.1)
     (by-slot t a.flags a.locality a.candidates.now s b _ (sym c.in_err-i.ensures)) c.requires
@@ -41,7 +38,7 @@ pub returns-then-has_bit : goal.returns-then-has_bit
 returns-then-has_bit g c =
     let a = c.args in
     let t = g.T.Slots.state a.t.now in
-    let s = ap₂ (λ (w i : ℕ). not_supported w i a.flags) (sym c.support.ensures) (sym c.has_initialized.ensures) ∙ sym c.not_supported.ensures ∙ c.if-not_supported.false in
+    let s = tested t a.flags c.support.ensures c.has_initialized.ensures c.not_supported.ensures c.if-not_supported.false in
     let b = sym c.both_or_neither.ensures ∙ c.if-both_or_neither.false in
     same g.T.Slots.state g.T.SlotsMut.Reads a.t.now _ c.initialize_default.ensures
     (sym (default-slot t a.flags a.locality a.candidates.now s b _ (sym c.in_ok-i.ensures) (sym c.has_bit.ensures ∙ c.if-has_bit.true)))
@@ -53,7 +50,7 @@ pub returns : goal.returns
 returns g c =
     let a = c.args in
     let t = g.T.Slots.state a.t.now in
-    let s = ap₂ (λ (w i : ℕ). not_supported w i a.flags) (sym c.support.ensures) (sym c.has_initialized.ensures) ∙ sym c.not_supported.ensures ∙ c.if-not_supported.false in
+    let s = tested t a.flags c.support.ensures c.has_initialized.ensures c.not_supported.ensures c.if-not_supported.false in
     let b = sym c.both_or_neither.ensures ∙ c.if-both_or_neither.false in
     same g.T.Slots.state g.T.SlotsMut.Reads a.t.now _ c.initialize_simulation.ensures
     (sym (simulation-slot t a.flags a.locality a.candidates.now s b _ (sym c.in_ok-i.ensures) (sym c.has_bit.ensures ∙ c.if-has_bit.false)))
