@@ -125,16 +125,6 @@ module _ (n : ℕ) (s : ℕ → Context) (h : List ℕ) (l : ℕ) where
     λ t. sym (found_at i (low-at i t) t.below),
   )
 
-  -- some slot is found exactly where some slot is active, of the locality, with the handle
-  pub some_iff : (some (is_target s h l) n ≡ true) ↔ ((i : ℕ) × (lookup_in n s h l ≡ Ok i))
-  some_iff = (
-    λ e. let r = of_some (is_target s h l) n e in ways
-        (λ j b q a. (j, a))
-        (λ b q a. clash r.2 (bare b r.0 r.1))
-        (λ b q a. clash r.2 (bare b r.0 r.1)),
-    λ r. let g = (found_iff r.0).0 r.1 in some_of (is_target s h l) n r.0 g.below (passes r.0 g),
-  )
-
   -- InvalidHandle exactly where the locality has an active context and no slot is a target
   pub handle_iff : (lookup_in n s h l ≡ Err InvalidHandle) ↔ ((some (active_in s l) n ≡ true) × ((i : ℕ) → i < n → is_target s h l i ≡ false))
   handle_iff = (
