@@ -1,25 +1,35 @@
 -- Laws of the choice: what a candidate that was taken satisfies, what each refusal says, and that only the slots below n count. Assumes nothing.
 use Rattle.std.specs.Prelude.{Result, Ok, Err}
-use mathlib.Core.Path.{◌≡◌, refl, sym, ◌∙◌}
+use mathlib.Core.Path.{◌≡◌, refl, sym, ap, ◌∙◌}
 use mathlib.Core.Logic.{◌⊎◌, inl, inr}
-use mathlib.Core.Bool.{true, false, not}
+use mathlib.Core.Bool.{Bool, true, false, cond, not, ◌&&◌}
 use mathlib.Core.List.{List}
 use Prim.Native.Nat.{ℕ, ◌+◌, ◌*◌, ◌-◌, ◌≤◌, ◌<◌}
 use native.Mathlib.Decide.{dec_lt}
+use native.Mathlib.Numerals.{add-one}
 use native.Mathlib.Omega.{arith}
 use borrow.Author.Tests.{lt-ltb, le-ltb, le-leb, lt-leb}
-use lib.ListN.{length, length-take, length-drop}
+use lib.Dec.{ltb}
+use lib.ListN.{length, take, drop, get_or, set, length-take, length-drop}
+use lib.Seq.{take-suc, take-suc-set, get_or-drop}
 use Rattle.error.specs.declared.DpeErrorCode.{DpeErrorCode}
 use Rattle.error.specs.declared.DpeErrorCode.TheVariants.{InternalError, Added}
 use Rattle.error.specs.declared.InternalErrorCode.TheVariants.{HandleGenerationExhausted}
 use Rattle.error.specs.declared.AddedErrorCode.TheVariants.{CandidatesShort}
 use Rattle.children.specs.Below.{some, lowest_from, lowest}
-use Rattle.children.proofs.Cases.{clash, and-true, and_both, and_right, not-true, leb-true}
-use Rattle.children.proofs.Below.{low-here, low_on, low_end, low_bare, low_passes, low_ge, none-at}
+use Rattle.children.proofs.Cases.{clash, order, and-true, and_both, and_right, not-true, leb-true}
+use Rattle.children.proofs.Below.{low-here, low_on, low_end, low_bare, low_passes, low_ge, low_same, none-at, some_same}
 use Rattle.context.specs.declared.Context.{Context}
 use Rattle.handle.specs.Handle.{handle_size, same_bytes, default_handle, is_default}
 use Rattle.context.proofs.Bytes.{same_iff}
-use Rattle.candidates.specs.Candidates.{attempts, candidate_at, holds, has_handle, usable, usable_at, chosen_in}
+use Rattle.candidates.specs.Candidates.{attempts, candidate_at, holds, has_handle, usable, usable_at, none_usable, chosen_in}
+
+-- one byte more is copied from place a on
+pub copy-next : (h b : List ℕ) (a i : ℕ) → i < length h → a + i < length b → take i h ≡ take i (drop a b)
+    → take (i + 1) (set h i (get_or b (a + i) 0)) ≡ take (i + 1) (drop a b)
+copy-next h b a i hh hb e =
+    let hd : i < length (drop a b) = simp length-drop (omega arith) in
+    rw (add-one i, take-suc-set h i _ hh, take-suc (drop a b) i 0 hd, get_or-drop a b i 0, e)
 
 -- ---- usable, by what is known of the handle
 
@@ -156,6 +166,36 @@ module _ (n : ℕ) (s : ℕ → Context) (b : List ℕ) where
       (λ k t q. never_done (sym q ∙ p))
       (λ f l q. record { bare = f; why = inl (same_refused (sym p ∙ q), l) })
       (λ f l q. record { bare = f; why = inr (same_refused (sym p ∙ q), l) })
+
+  -- and back: the first usable candidate of the eight is the one taken
+  pub first_taken : (k : ℕ) → k < attempts → usable_at n s b k ≡ true → ((j : ℕ) → j < k → usable_at n s b j ≡ false)
+      → chosen_in n s b ≡ Ok (candidate_at b k)
+  first_taken k l u f = elim (order (lowest (usable_at n s b) attempts) k) [
+    | inl a ↦ clash (low_passes (usable_at n s b) attempts 0 (omega arith)) (f _ a)
+    | inr (inl e) ↦ sym (chosen_at n s b k e l)
+    | inr (inr a) ↦ clash u (low_bare (usable_at n s b) attempts 0 k (omega arith) a)
+  ]
+
+  pub none_taken : ((k : ℕ) → k < attempts → usable_at n s b k ≡ false) → chosen_in n s b ≡ none_usable b
+  unfolding chosen_in
+  none_taken f = elim (dec_lt (lowest (usable_at n s b) attempts) attempts) [
+    | yes l ↦ clash (low_passes (usable_at n s b) attempts 0 (omega arith)) (f _ l)
+    | no nl ↦ rw (le-ltb (lowest (usable_at n s b) attempts) attempts (omega arith))
+  ]
+
+-- only the handles of the slots below n count
+module _ (n : ℕ) (s s' : ℕ → Context) (same : (i : ℕ) → i < n → (s i).handle ≡ (s' i).handle) where
+  pub usable_same : (h : List ℕ) → usable n s h ≡ usable n s' h
+  unfolding usable
+  usable_same h =
+      ap (λ (x : Bool). not (is_default h) && not x)
+      (some_same (has_handle s h) (has_handle s' h) n (λ i b. ap (λ (x : List ℕ). same_bytes x h) (same i b)))
+
+  pub chosen_same : (b : List ℕ) → chosen_in n s b ≡ chosen_in n s' b
+  unfolding chosen_in
+  chosen_same b =
+      ap (λ (k : ℕ). cond (ltb k attempts) (Ok (candidate_at b k)) (none_usable b))
+      (low_same (usable_at n s b) (usable_at n s' b) attempts 0 (λ k l m. ap (λ (x : Bool). holds b (k + 1) && x) (usable_same (candidate_at b k))))
 
 -- ---- what the attribute of generate_new_handle cites
 

@@ -3,11 +3,13 @@ use Rattle.std.specs.Prelude.{Result, Ok, Err}
 use mathlib.Core.Bool.{Bool}
 use mathlib.Core.Path.{◌≡◌, ap}
 use mathlib.Core.List.{List}
-use Prim.Native.Nat.{ℕ, ◌<◌}
+use Prim.Native.Nat.{ℕ, ◌≤◌, ◌<◌}
 use native.Mathlib.Omega.{arith}
-use borrow.Author.Tests.{lt-ltb}
+use borrow.Author.Tests.{lt-ltb, le-ltb}
 use Rattle.error.specs.Numbers.{done}
 use Rattle.error.specs.declared.DpeErrorCode.{DpeErrorCode}
+use Rattle.error.specs.declared.DpeErrorCode.TheVariants.{InternalError}
+use Rattle.error.specs.declared.InternalErrorCode.TheVariants.{ContextIndexOob}
 use Rattle.children.specs.Marks.{slot_count}
 use Rattle.table.specs.declared.state.State.{State}
 use Rattle.context.specs.Context.{slot_of}
@@ -23,7 +25,20 @@ use Rattle.destroy_context.specs.Destroy.{on_down, on_run, doomed_of, doomed_in,
 -- ---- the slots that go, over the links of all slots
 
 module _ (n : ℕ) (live retired : ℕ → Bool) (parent kids : ℕ → ℕ) (slot : ℕ) where
+  pub doomed_outside : n ≤ slot → doomed_of n live retired parent kids slot ≡ Err (InternalError ContextIndexOob)
+  unfolding doomed_of
+  doomed_outside h = rw (le-ltb slot n h)
+
   module _ (h : slot < n) where
+    pub doomed_run : (e : DpeErrorCode) → run_from n retired parent kids (parent slot) ≡ Err e → doomed_of n live retired parent kids slot ≡ Err e
+    unfolding doomed_of on_run
+    doomed_run e q = rw (lt-ltb slot n h, q)
+
+    pub doomed-down : (run : ℕ) (e : DpeErrorCode) → run_from n retired parent kids (parent slot) ≡ Ok run → down_from n live kids slot ≡ Err e
+        → doomed_of n live retired parent kids slot ≡ Err e
+    unfolding doomed_of on_run on_down
+    doomed-down run e p q = rw (lt-ltb slot n h, p, q)
+
     pub doomed-both : (run down : ℕ) → run_from n retired parent kids (parent slot) ≡ Ok run → down_from n live kids slot ≡ Ok down
         → doomed_of n live retired parent kids slot ≡ Ok (doomed_word down slot run)
     unfolding doomed_of on_run on_down

@@ -28,9 +28,9 @@ use Rattle.image_kinds.specs.Kinds.{context_size, context_answer}
 use Rattle.image_context.specs.Context.{decode_tci, decode_context, encode_tci, encode_last, encode_context}
 use Rattle.image_context.proofs.Fields.{byte_type, byte_state}
 use Rattle.image_context.proofs.Writing.{length_context}
-use Rattle.image.specs.State.{contexts_at, support_at, state_size, slot_bytes, slot_in, decode_state, readable_of}
+use Rattle.image.specs.State.{contexts_at, support_at, state_size, slot_bytes, slot_in, decode_state, readable_of, encode_state}
 use Rattle.image.proofs.Reading.{state-slot, readable-size, readable_good, good_readable}
-use Rattle.image.proofs.RoundTrip.{context_again, context_reads}
+use Rattle.image.proofs.RoundTrip.{state_back, context_again, context_reads}
 
 -- ---- bytes put into slot j, from its byte k on
 
@@ -169,9 +169,12 @@ pub record ImageOf (l : List ℕ) (t : State) : Type 0 where
   pub bytes : Bytes l
   pub table : decode_state l ≡ t
 
--- an image that reads is that of its table
+-- an image that reads is that of its table, and it is what writing that table gives
 pub image-of : (l : List ℕ) → Bytes l → readable_of l ≡ done → ImageOf l (decode_state l)
 image-of l b r = record { reads = r; bytes = b; table = refl }
+
+pub image-written : (l : List ℕ) (t : State) → ImageOf l t → encode_state t ≡ l
+image-written l t o = ap encode_state (sym o.table) ∙ state_back l o.bytes o.reads
 
 pub image-slot : (l : List ℕ) (t : State) → ImageOf l t → (i : ℕ) → i < slot_count → slot_in l i ≡ slot_of t.contexts i
 image-slot l t o i h = sym (state-slot l i h) ∙ ap (λ (x : State). slot_of x.contexts i) o.table

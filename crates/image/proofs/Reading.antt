@@ -1,14 +1,15 @@
 -- Laws of reading a whole image. Assumes nothing.
 use Rattle.std.specs.Prelude.{Result, Ok, Err}
 use Rattle.std.specs.Result.{result_and}
-use mathlib.Core.Path.{◌≡◌, refl, sym, ◌∙◌}
+use mathlib.Core.Path.{◌≡◌, refl, sym, ap, ◌∙◌}
 use mathlib.Core.List.{List}
 use Prim.Native.Nat.{ℕ, zero, suc, ◌+◌, ◌≤◌, ◌<◌}
 use native.Mathlib.Decide.{ℕ_discrete}
 use native.Mathlib.Numerals.{add-one}
 use native.Mathlib.Omega.{arith}
 use borrow.Author.Tests.{eq-eqb, ne_eqb}
-use lib.ListN.{length, get_or}
+use lib.ListN.{length, take, get_or, replicate}
+use lib.Seq.{take_all}
 use Rattle.error.specs.Numbers.{done}
 use Rattle.error.specs.declared.DpeErrorCode.{DpeErrorCode}
 use Rattle.error.specs.declared.DpeErrorCode.TheVariants.{Added}
@@ -145,6 +146,9 @@ module _ (l : List ℕ) where
   read_tells t p = by_read (readable_of l) t p
 
 -- ---- what the code makes
+
+pub slots_made : (l : List ℕ) (cs : List Context) (i : ℕ) → i ≡ slot_count → length cs ≡ slot_count → take i cs ≡ list_of (slot_in l) i → cs ≡ list_of (slot_in l) slot_count
+slots_made l cs i e n t = sym (take_all slot_count cs (omega arith)) ∙ ap (λ (k : ℕ). take k cs) (sym e) ∙ t ∙ ap (list_of (slot_in l)) e
 
 pub state_made : (l : List ℕ) {m v : ℕ} {cs : List Context} {p f : ℕ} → m ≡ le (part 0 4 l) → v ≡ le (part 4 4 l) → cs ≡ list_of (slot_in l) slot_count
     → p ≡ le (part support_at 4 l) → f ≡ le (part (support_at + 4) 2 l)

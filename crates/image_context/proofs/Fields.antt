@@ -2,8 +2,10 @@
 use mathlib.Core.Path.{◌≡◌, refl}
 use Prim.Native.Nat.{ℕ, zero, suc, ◌<◌}
 use native.Mathlib.Omega.{arith}
+use lib.Dec.{eqb}
 use Rattle.context.specs.declared.ContextState.{ContextState}
 use Rattle.context.specs.declared.ContextState.TheVariants.{Inactive, Active, Retired}
+use Rattle.context.specs.Context.{same_state}
 use Rattle.context.specs.declared.ContextType.{ContextType}
 use Rattle.context.specs.declared.ContextType.TheVariants.{Normal, Simulation}
 use Rattle.image_context.specs.Context.{state_of, state_byte, type_of, type_byte}
@@ -31,6 +33,23 @@ state_byte_lem zero h = refl
 state_byte_lem (suc zero) h = refl
 state_byte_lem (suc (suc zero)) h = refl
 state_byte_lem (suc (suc (suc b))) h = absurd (omega arith)
+
+-- two bytes that are states say the same one just where they are equal
+pub same_byte : (a b : ℕ) → a < 3 → b < 3 → same_state (state_of a) (state_of b) ≡ eqb b a
+unfolding state_of
+same_byte zero zero h k = refl
+same_byte zero (suc zero) h k = refl
+same_byte zero (suc (suc zero)) h k = refl
+same_byte zero (suc (suc (suc b))) h k = absurd (omega arith)
+same_byte (suc zero) zero h k = refl
+same_byte (suc zero) (suc zero) h k = refl
+same_byte (suc zero) (suc (suc zero)) h k = refl
+same_byte (suc zero) (suc (suc (suc b))) h k = absurd (omega arith)
+same_byte (suc (suc zero)) zero h k = refl
+same_byte (suc (suc zero)) (suc zero) h k = refl
+same_byte (suc (suc zero)) (suc (suc zero)) h k = refl
+same_byte (suc (suc zero)) (suc (suc (suc b))) h k = absurd (omega arith)
+same_byte (suc (suc (suc a))) b h k = absurd (omega arith)
 
 pub byte_type : (t : ContextType) → (type_of (type_byte t) ≡ t) × (type_byte t < 2)
 unfolding type_of

@@ -2,7 +2,7 @@
 use Rattle.std.specs.Prelude.{Result, Ok, Err}
 use mathlib.Core.Path.{◌≡◌, refl, sym, ap, ap₂, ◌∙◌}
 use mathlib.Core.Logic.{inl, inr}
-use mathlib.Core.Bool.{Bool, true, false, not, ◌&&◌}
+use mathlib.Core.Bool.{Bool, true, false, not, ◌&&◌, ◌||◌, beq}
 use mathlib.Core.List.{List}
 use Prim.Native.Nat.{ℕ, ◌<◌}
 use native.Mathlib.Decide.{dec_lt}
@@ -18,6 +18,7 @@ use Rattle.context.specs.declared.Context.{Context}
 use Rattle.table.specs.declared.state.State.{State}
 use Rattle.table.specs.declared.state.Outcome.{Outcome}
 use Rattle.context.specs.declared.ContextType.TheVariants.{Simulation}
+use Rattle.handle.specs.Handle.{default_handle}
 use Rattle.context.specs.Bytes.{is_on}
 use Rattle.table.specs.Flags.{simulation_bit, init_simulation_bit, init_default_bit}
 use Rattle.context.specs.Context.{active_context, slot_of}
@@ -26,6 +27,13 @@ use Rattle.table.proofs.Slots.{free-at, free_none}
 use Rattle.candidates.specs.Candidates.{chosen_in}
 use Rattle.candidates.proofs.Candidates.{Taken, taken}
 use Rattle.initialize_context.specs.Initialize.{root_args, not_supported, both_or_neither, default_in, simulation_of, activated_in, initialized_of}
+
+-- `!(d ^ s)` is both or neither
+pub both-or_neither : (d s : Bool) → not (not (beq d s)) ≡ ((d && s) || not (d || s))
+both-or_neither true true = refl
+both-or_neither true false = refl
+both-or_neither false true = refl
+both-or_neither false false = refl
 
 -- slot i is the lowest inactive one
 pub record Free (n : ℕ) (s : ℕ → Context) (i : ℕ) : Type 0 where
@@ -63,12 +71,12 @@ module _ (t : State) (l i : ℕ) (b : List ℕ) where
       → simulation_of t l i b ≡ handed_of (with_slot t i (active_context (root_args Simulation h l false))) h
   chosen h a = rw a
 
--- ---- the tests in their order
-
 -- what the first test of the call says of the table
 pub tested : (t : State) (flags : ℕ) {w i : ℕ} {r x : Bool} → w ≡ t.support → i ≡ t.has_initialized → r ≡ not_supported w i flags → r ≡ x
     → not_supported t.support t.has_initialized flags ≡ x
 tested t flags p q e o = ap₂ (λ (w i : ℕ). not_supported w i flags) (sym p) (sym q) ∙ sym e ∙ o
+
+-- ---- the tests in their order
 
 module _ (t : State) (flags l : ℕ) (b : List ℕ) where
   pub not-supported : not_supported t.support t.has_initialized flags ≡ true → initialized_of t flags l b ≡ refused_of t ArgumentNotSupported

@@ -1,23 +1,24 @@
 -- Laws of the lookup: what a slot that was found satisfies, what each refusal says, and that only the slots below n count. Assumes nothing.
 use Rattle.std.specs.Prelude.{Result, Ok, Err}
-use mathlib.Core.Path.{◌≡◌, refl, sym, ◌∙◌}
+use mathlib.Core.Path.{◌≡◌, refl, sym, ap, ap₂, ◌∙◌}
 use mathlib.Core.Logic.{◌⊎◌, inl, inr, ◌↔◌}
-use mathlib.Core.Bool.{Bool, true, false, ◌||◌}
+use mathlib.Core.Bool.{Bool, true, false, cond, ◌||◌}
 use mathlib.Core.List.{List}
 use Prim.Native.Nat.{ℕ, ◌+◌, ◌-◌, ◌≤◌, ◌<◌}
 use native.Mathlib.Decide.{dec_lt}
 use native.Mathlib.Omega.{arith}
 use borrow.Author.Tests.{lt-ltb, le-ltb}
+use lib.Dec.{ltb}
 use Rattle.error.specs.declared.DpeErrorCode.{DpeErrorCode}
 use Rattle.error.specs.declared.DpeErrorCode.TheVariants.{InvalidHandle, InvalidLocality}
 use Rattle.children.specs.Below.{some, lowest_from, lowest}
 use Rattle.children.proofs.Cases.{two, clash, order, and-true, and_both, and_left, eqb-true, true-eqb}
 use Rattle.table.proofs.Slots.{free-at}
-use Rattle.children.proofs.Below.{count-le, low-here, low_on, low_end, low_bare, low_passes, of_some, some_of, none-at}
+use Rattle.children.proofs.Below.{count-le, low-here, low_on, low_end, low_bare, low_passes, low_same, of_some, some_of, none-at, some_same}
 use Rattle.context.specs.declared.Context.{Context}
 use Rattle.context.specs.Context.{is_active}
 use Rattle.context.proofs.Bytes.{same_iff}
-use Rattle.lookup.specs.Lookup.{active_in, is_target, lookup_in}
+use Rattle.lookup.specs.Lookup.{active_of, active_in, is_target, lookup_in}
 
 -- slot i is what the lookup of h and l has to find: a slot, active, of the locality, with the handle, and the lowest such
 pub record Target (n : ℕ) (s : ℕ → Context) (h : List ℕ) (l i : ℕ) : Type 0 where
@@ -125,6 +126,16 @@ module _ (n : ℕ) (s : ℕ → Context) (h : List ℕ) (l : ℕ) where
     λ t. sym (found_at i (low-at i t) t.below),
   )
 
+  -- some slot is found exactly where some slot is active, of the locality, with the handle
+  pub some_iff : (some (is_target s h l) n ≡ true) ↔ ((i : ℕ) × (lookup_in n s h l ≡ Ok i))
+  some_iff = (
+    λ e. let r = of_some (is_target s h l) n e in ways
+        (λ j b q a. (j, a))
+        (λ b q a. clash r.2 (bare b r.0 r.1))
+        (λ b q a. clash r.2 (bare b r.0 r.1)),
+    λ r. let g = (found_iff r.0).0 r.1 in some_of (is_target s h l) n r.0 g.below (passes r.0 g),
+  )
+
   -- InvalidHandle exactly where the locality has an active context and no slot is a target
   pub handle_iff : (lookup_in n s h l ≡ Err InvalidHandle) ↔ ((some (active_in s l) n ≡ true) × ((i : ℕ) → i < n → is_target s h l i ≡ false))
   handle_iff = (
@@ -148,6 +159,14 @@ module _ (n : ℕ) (s : ℕ → Context) (h : List ℕ) (l : ℕ) where
   -- there is no other refusal
   pub refused_by_lem : (e : DpeErrorCode) → lookup_in n s h l ≡ Err e → (e ≡ InvalidHandle) ⊎ (e ≡ InvalidLocality)
   refused_by_lem e r = ways (λ j b q a. never (sym a ∙ r)) (λ b q a. inl (cc)) (λ b q a. inr (cc))
+
+-- only the slots below n count
+pub lookup_same : (n : ℕ) (s s' : ℕ → Context) (h : List ℕ) (l : ℕ) → ((i : ℕ) → i < n → s i ≡ s' i) → lookup_in n s h l ≡ lookup_in n s' h l
+unfolding lookup_in
+lookup_same n s s' h l f =
+    ap₂ (λ (k : ℕ) (b : Bool). cond (ltb k n) (Ok k) (cond b (Err InvalidHandle) (Err InvalidLocality)))
+    (low_same (is_target s h l) (is_target s' h l) n 0 (λ i a b. ap (λ (c : Context). is_target (λ _. c) h l 0) (f i (omega arith))))
+    (some_same (active_in s l) (active_in s' l) n (λ i b. ap (λ (c : Context). active_of c l) (f i b)))
 
 -- ---- what the calls' attributes cite
 

@@ -17,7 +17,8 @@ pub fn active_in<T: Slots>(t: &T, i: usize, locality: u32) -> bool
     requires { i < slot_count }
     ensures { result ≡ active_in (contexts_in (T.state t.now)) locality i }
 {
-    context::is_active(t.state_at(i)) & (t.locality_at(i) == locality)
+    // The locality first: fewer slots are of it than are active.
+    (t.locality_at(i) == locality) & context::is_active(t.state_at(i))
 }
 
 // The lowest active slot of the locality with the handle.

@@ -21,7 +21,7 @@ use Rattle.table.specs.Flags.{rotate_bit, rotate_default_bit}
 use Rattle.context.specs.Context.{slot_of}
 use Rattle.table.specs.State.{refused_of}
 use Rattle.lookup.specs.Lookup.{active_in, lookup_in}
-use Rattle.lookup.proofs.Lookup.{Target, found_iff}
+use Rattle.lookup.proofs.Lookup.{Target, found_iff, some_iff}
 use Rattle.candidates.specs.Candidates.{chosen_in}
 use Rattle.candidates.proofs.Candidates.{Taken, taken}
 use Rattle.rotate_context.specs.Rotate.{default_at, other_at, occupied, rotated_to, to_default, to_chosen, to_candidate, rotated_at, rotated_of}
@@ -84,6 +84,10 @@ module _ (s : ℕ → Context) (l i : ℕ) where
     ]),
   )
 
+-- the locality has an active default exactly where the lookup of the default handle finds a slot, which is what the Rust asks
+pub default_iff : (n : ℕ) (s : ℕ → Context) (l : ℕ) → (some (default_at s l) n ≡ true) ↔ ((i : ℕ) × (lookup_in n s default_handle l ≡ Ok i))
+default_iff n s l = some_iff n s default_handle l
+
 -- ---- to default
 
 module _ (t : State) (l i : ℕ) where
@@ -102,11 +106,11 @@ module _ (t : State) (i : ℕ) (b : List ℕ) where
   pub chosen : (h : List ℕ) → chosen_in slot_count (slot_of t.contexts) b ≡ Ok h → to_candidate t i b ≡ rotated_to t i h
   chosen h a = rw a
 
--- ---- the tests in their order
-
 -- what the test of the call says of the table
 pub tested : (t : State) {w : ℕ} {r x : Bool} → w ≡ t.support → r ≡ marked w rotate_bit → r ≡ x → not (marked t.support rotate_bit) ≡ not x
 tested t p q o = ap (λ (w : ℕ). not (marked w rotate_bit)) (sym p) ∙ ap not (sym q ∙ o)
+
+-- ---- the tests in their order
 
 module _ (t : State) (h : List ℕ) (l flags : ℕ) (b : List ℕ) where
   pub no-support : not (marked t.support rotate_bit) ≡ true → rotated_of t h l flags b ≡ refused_of t InvalidCommand
@@ -147,6 +151,14 @@ module _ (t : State) (l flags i : ℕ) (b : List ℕ) where
   to_chosen_kept : (o : Result (List ℕ) DpeErrorCode) (e : DpeErrorCode) → (to_chosen t i o).answer ≡ Err e → to_chosen t i o ≡ refused_of t e
   to_chosen_kept (Ok h') e p = never p
   to_chosen_kept (Err e') e p = ap (refused_of t) (same_err p)
+
+  pub new-occupied : marked flags rotate_default_bit ≡ true → occupied slot_count (slot_of t.contexts) l i ≡ true
+      → (rotated_at t l flags b (Ok i)).answer ≡ Err InvalidArgument
+  new-occupied d o = rw (d, o)
+
+  pub new-default : marked flags rotate_default_bit ≡ true → occupied slot_count (slot_of t.contexts) l i ≡ false
+      → (rotated_at t l flags b (Ok i)).answer ≡ Ok default_handle
+  new-default d o = rw (d, o)
 
   -- where one is given, the slot has it; else nothing changes
   pub told_handle : (h : List ℕ) → Ok h ≡ (rotated_at t l flags b (Ok i)).answer → rotated_at t l flags b (Ok i) ≡ rotated_to t i h
