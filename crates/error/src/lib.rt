@@ -2,7 +2,7 @@
 #![tactic(auto)]
 
 ghost use Rattle.std.specs.Prelude.{◌≡◌};
-ghost use Rattle.error.specs.declared.DpeErrorCode.TheVariants.{InternalError, Validation, Added};
+ghost use Rattle.error.specs.declared.DpeErrorCode.TheVariants.{Validation};
 ghost use Rattle.error.specs.Numbers.{outer_of, inner_of, internal_of, validation_of, added_of, word_of};
 
 // Something that should never occur in a sound table.
@@ -70,14 +70,6 @@ pub enum DpeErrorCode {
     Added(AddedErrorCode),
 }
 
-impl From<InternalErrorCode> for DpeErrorCode {
-    ghost from_gives = { λ i e. e ≡ InternalError i };
-
-    fn from(i: InternalErrorCode) -> DpeErrorCode {
-        DpeErrorCode::InternalError(i)
-    }
-}
-
 impl From<ValidationError> for DpeErrorCode {
     ghost from_gives = { λ v e. e ≡ Validation v };
 
@@ -86,16 +78,8 @@ impl From<ValidationError> for DpeErrorCode {
     }
 }
 
-impl From<AddedErrorCode> for DpeErrorCode {
-    ghost from_gives = { λ a e. e ≡ Added a };
-
-    fn from(a: AddedErrorCode) -> DpeErrorCode {
-        DpeErrorCode::Added(a)
-    }
-}
-
-// The numbers of the refusals are what the C interface hands out. They stand in a match and are no discriminants: the edit number_of_a_fault
-// gives two faults one number, which discriminants cannot have.
+// The numbers of the refusals are what the C interface hands out. They stand in matches: a case that carries an inner enum has no discriminant of
+// its own, and the edit number_of_a_fault gives two faults one number, which discriminants cannot have.
 
 // The number of an internal error.
 pub fn internal(i: InternalErrorCode) -> u32

@@ -20,7 +20,7 @@ pub fn new_invalid() -> [u8; SIZE]
     [0xff; SIZE]
 }
 
-// Whether two handles are the same. Every byte is looked at, whatever the others were: handles are secrets, and a derived `==` may end early.
+// Whether two handles are the same. Every byte is looked at, whatever the others were: handles are secrets, and an `==` of arrays may end early.
 #[tactic(auto, unfolding(crate::specs::Handle::same_bytes))]
 pub fn equals(a: [u8; SIZE], b: [u8; SIZE]) -> bool
     ensures { result ≡ same_bytes a b }

@@ -52,7 +52,7 @@ decode_state l = record {
 abbrev pub if_whole : List ℕ → Result Unit DpeErrorCode → Result Unit DpeErrorCode
 if_whole l a = cond (eqb (length l) state_size) a (Err (Added BadLength))
 
--- the result_and refusal of the slots below n, upward
+-- the first refusal of the slots below n, upward
 unfoldable pub slots_answer : ℕ → List ℕ → Result Unit DpeErrorCode
 slots_answer zero l = done
 slots_answer (suc n) l = result_and (slots_answer n l) (context_answer (slot_bytes l n))
@@ -69,7 +69,7 @@ good_slot l i = is_good (slot_bytes l i)
 unfoldable pub is_readable : List ℕ → Bool
 is_readable l = eqb (length l) state_size && every (good_slot l) slot_count
 
--- what reading an image gives: its table, or the result_and refusal
+-- what reading an image gives: its table, or the first refusal
 unfoldable pub read_state : List ℕ → Result State DpeErrorCode
 read_state l = result_and (readable_of l) (Ok (decode_state l))
 

@@ -40,7 +40,7 @@ pub const ALLOW_EXPORT_CDI_AT: usize = 142;
 
 pub const ALLOW_RECURSIVE_AT: usize = 143;
 
-// The state that a byte says; only 0, 1 and 2 are ever asked for. Total and no TryFrom, as the definition is: image_kinds refuses other bytes before.
+// The state that a byte says; only 0, 1 and 2 are ever asked for. Total, as the definition is: image_kinds refuses other bytes before. No From, which would have to stand in context.
 #[tactic(auto, using(crate::proofs::Fields::state_rest), unfolding(crate::specs::Context::state_of))]
 pub fn state_of(b: u8) -> ContextState
     ensures { result ≡ state_of b }

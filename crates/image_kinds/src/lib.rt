@@ -39,7 +39,7 @@ pub fn answer_at(image: &[u8], at: usize) -> Result<(), DpeErrorCode>
 }
 
 // The type byte and the state byte of the context at `at` as one word, with one state more: a good context has less than four.
-// A number and no Result: the quick test of reading joins 32 of them in one pass with no branch; `answer_at` is the plain form, and slower.
+// A number and no Result: the quick test of reading joins 32 of them in one pass with no branch; `answer_at` is the plain form, and slower (docs/SPEED.md).
 pub fn kind_at(image: &[u8], at: usize) -> u32
     requires { at + context_size ≤ length image.now }
     ensures { result ≡ kind_word (part at context_size image.now) }

@@ -88,9 +88,7 @@ fn change(image: &mut [u8], changes: &[u8]) {
 }
 
 // The answer of a call on the image, which a refusal and half of the calls leave as it was.
-fn called(call: Call, image: &mut [u8], h: &[u8], candidates: &[u8]) -> Answer
-    requires { 104 ≤ length h.now }
-{
+fn called(call: Call, image: &mut [u8], h: &[u8; HEADER_SIZE], candidates: &[u8]) -> Answer {
     let locality = wire::read_u32(h, 8);
     let flags = wire::read_u32(h, 12);
     let slot = wire::read_u64(h, 16) as usize;
@@ -121,9 +119,7 @@ fn called(call: Call, image: &mut [u8], h: &[u8], candidates: &[u8]) -> Answer
 }
 
 // Whether an answer is the one that the header holds.
-fn agrees(a: Answer, h: &[u8]) -> bool
-    requires { 104 ≤ length h.now }
-{
+fn agrees(a: Answer, h: &[u8; HEADER_SIZE]) -> bool {
     let handle = a.handle;
     let slots = a.slots;
     let numbers = (a.word == wire::read_u64(h, 40)) & (a.number == wire::read_u64(h, 48));
@@ -131,9 +127,7 @@ fn agrees(a: Answer, h: &[u8]) -> bool
 }
 
 // Runs a case on its table, and compares the answer and every byte of the table afterwards.
-fn run(h: &[u8], before: &[u8], after: &[u8], candidates: &[u8]) -> bool
-    requires { 104 ≤ length h.now }
-{
+fn run(h: &[u8; HEADER_SIZE], before: &[u8], after: &[u8], candidates: &[u8]) -> bool {
     let mut image = [0u8; state::SIZE];
     image_table::write_state(State::new(0, 0), &mut image).unwrap();
     change(&mut image, before);
@@ -149,12 +143,12 @@ fn first_case(s: &[u8]) -> Case
     ensures { (0 < result.size) × (result.size ≤ length s.now) }
 {
     let n = s.len();
-    if n < HEADER_SIZE {
+    let Some(header) = s.first_chunk::<HEADER_SIZE>() else {
         return Case {
             size: n,
             same: false,
         };
-    }
+    };
     let h = HEADER_SIZE;
     let a = h + 3 * usize::from(wire::read_u16(s, 2));
     let b = a + 3 * usize::from(wire::read_u16(s, 4));
@@ -165,7 +159,7 @@ fn first_case(s: &[u8]) -> Case
             same: false,
         };
     }
-    let same = run(&s[..h], &s[h..a], &s[a..b], &s[b..e]);
+    let same = run(header, &s[h..a], &s[a..b], &s[b..e]);
     Case { size: e, same }
 }
 

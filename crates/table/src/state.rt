@@ -1,7 +1,7 @@
 // The whole table. state.rs.
 ghost use Rattle.std.specs.Prelude.{◌≡◌, ◌<◌};
 ghost use Rattle.children.specs.Marks.{slot_count};
-ghost use Rattle.table.specs.State.{new_state, with_slot, with_initialized, refused_of};
+ghost use Rattle.table.specs.State.{new_state, with_slot, with_initialized};
 
 use children::MAX_HANDLES;
 use context::Context;
@@ -19,6 +19,7 @@ pub struct State {
     pub contexts: [Context; MAX_HANDLES],
     pub support: u32,
     pub flags: u16,
+    // A byte and no bool: an image may hold any byte here and keeps it.
     pub has_initialized: u8,
     pub reserved: u8,
 }
@@ -66,14 +67,4 @@ pub fn with_initialized(t: State) -> State
     let mut u = t;
     u.has_initialized = 1;
     u
-}
-
-// A refusal: the table as it was.
-pub fn refused<T>(t: State, e: DpeErrorCode) -> Outcome<T>
-    ensures { result ≡ refused_of t e }
-{
-    Outcome {
-        answer: Err(e),
-        state: t,
-    }
 }

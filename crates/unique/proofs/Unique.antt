@@ -37,7 +37,6 @@ use Rattle.handle.proofs.is_default.Reads as handle-is-default-reads
 use Rattle.table.proofs.state.State.new.Reads as table-state-state-new-reads
 use Rattle.table.proofs.state.with_context.Reads as table-state-with-context-reads
 use Rattle.table.proofs.state.with_initialized.Reads as table-state-with-initialized-reads
-use Rattle.table.proofs.state.refused.Reads as table-state-refused-reads
 use Rattle.context.proofs.tci.TciNodeData.new.Reads as context-tci-tcinodedata-new-reads
 use Rattle.context.proofs.u8bool.get.Reads as context-u8bool-get-reads
 use Rattle.context.proofs.u8bool.new.Reads as context-u8bool-new-reads
@@ -109,6 +108,7 @@ use Rattle.initialize_context.proofs.initialize_on.Reads as initialize-context-i
 use Rattle.rotate_context.proofs.rotate_on.Reads as rotate-context-rotate-on-reads
 use Rattle.destroy_context.proofs.destroy_slot_on.Reads as destroy-context-destroy-slot-on-reads
 use Rattle.destroy_context.proofs.destroy_on.Reads as destroy-context-destroy-on-reads
+use Rattle.clearing.proofs.clear.Reads as clearing-clear-reads
 use Rattle.tell.proofs.found.Reads as tell-found-reads
 use Rattle.validation.proofs.validate_image.Reads as validation-validate-image-reads
 
@@ -218,9 +218,6 @@ table-state-with_context κ a r r' s s' = one
 
 pub table-state-with_initialized : OneResult table-state-with-initialized-reads.Post
 table-state-with_initialized κ a r r' s s' = one
-
-pub table-state-refused : (T : _) (l : _) → OneResult (table-state-refused-reads.Post T l)
-table-state-refused T l κ a r r' s s' = one
 
 pub context-tci-tcinodedata-new : OneResult context-tci-tcinodedata-new-reads.Post
 context-tci-tcinodedata-new κ a r r' s s' = one
@@ -434,6 +431,9 @@ destroy_context-destroy_slot_on T l m dm t d κ a r r' s s' p q = (one p.answers
 
 pub destroy_context-destroy_on : (T : _) (l : _) (m : _) (dm : _) (t : _) (d : _) (κ : _) (a : _) (r r' : _) (s s' : _) → destroy-context-destroy-on-reads.Post T l m dm t d κ a r s → destroy-context-destroy-on-reads.Post T l m dm t d κ a r' s' → (r ≡ r') × (t.state s.0.now ≡ t.state s'.0.now)
 destroy_context-destroy_on T l m dm t d κ a r r' s s' p q = (one p.answers q.answers, one p.table q.table)
+
+pub clearing-clear : (T : _) (l : _) (m : _) (dm : _) (t : _) (d : _) (κ : _) (a : _) (r r' : _) (s s' : _) → clearing-clear-reads.Post T l m dm t d κ a r s → clearing-clear-reads.Post T l m dm t d κ a r' s' → t.state s.0.now ≡ t.state s'.0.now
+clearing-clear T l m dm t d κ a r r' s s' p q = one p.1 q.1
 
 pub tell-found : (T : _) (l : _) (m : _) (t : _) (d : _) (κ : _) (a : _) (r r' : _) (s s' : _) → tell-found-reads.Post T l m t d κ a r s → tell-found-reads.Post T l m t d κ a r' s' → (r ≡ r') × (s.1.0.now ≡ s'.1.0.now)
 tell-found T l m t d κ a r r' s s' p q = (one p.0 q.0, one p.1 q.1)

@@ -13,7 +13,7 @@ use context::u8bool;
 use error::ValidationError;
 use links::Links;
 
-// The slots below a slot, all of the type `kind`. `seen` marks the slots met so far; `depth` falls.
+// The slots below a slot, all of the type `kind`, a number as the search has it. `seen` marks the slots met so far; `depth` falls.
 #[tactic(auto, using(crate::proofs::Searches::visits, crate::proofs::Searches::marks), unfolding(crate::specs::Summary::told))]
 fn detect_invalid_subtree(
     l: &Links,

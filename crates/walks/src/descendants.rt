@@ -22,6 +22,7 @@ pub fn descend<T: Slots>(t: &T, path: u64, slot: usize, depth: usize) -> Result<
     let mut down = path;
     let mut at = slot;
     let mut left = depth;
+    // No `for`: how many more may come is part of the invariant, and falls with the slot.
     while left != 0 {
         if context::is_inactive(t.state_at(at)) {
             return Err(DpeErrorCode::InvalidHandle);
