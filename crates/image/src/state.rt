@@ -39,6 +39,7 @@ fn are_good(image: &[u8]) -> bool
 
 // Whether the image reads.
 #[tactic(auto, using(crate::proofs::Reading::is_whole, crate::proofs::Reading::is_short))]
+#[inline(never)]
 pub fn is_readable(image: &[u8]) -> bool
     ensures { result ≡ is_readable image.now }
 {
@@ -50,6 +51,7 @@ pub fn is_readable(image: &[u8]) -> bool
 
 // The first refusal of an image, slot by slot.
 #[tactic(auto, using(crate::proofs::Reading::read_short, crate::proofs::Reading::slots_on), unfolding(crate::specs::State::slots_answer))]
+#[cold]
 fn first_refusal(image: &[u8]) -> Result<(), DpeErrorCode>
     ensures { result ≡ readable_of image.now }
 {
@@ -64,6 +66,7 @@ fn first_refusal(image: &[u8]) -> Result<(), DpeErrorCode>
 
 // What reading the image answers; nothing is built. The quick test comes first, and why an image does not read is looked for after it.
 #[tactic(auto, using(crate::proofs::Reading::readable_done))]
+#[inline(always)]
 pub fn readable(image: &[u8]) -> Result<(), DpeErrorCode>
     ensures { result ≡ readable_of image.now }
 {
