@@ -11,7 +11,7 @@
  *  - what is written (`image` where it is not const, `new_handle`, `slots` and the numbers) overlaps nothing
  *    else that is passed to the same call.
  *
- * A call works where the image lies and keeps no copy of it. The most stack that was measured is 5,192 bytes, in
+ * A call works where the image lies and keeps no copy of it. The most stack that was measured is 4,360 bytes, in
  * dpe_validate; docs/SPEED.md has the time and the stack of each call.
  *
  * Refusals, first one first. Every call begins with the reading refusals:
