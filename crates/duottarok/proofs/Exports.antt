@@ -15,7 +15,6 @@ use Rattle.error.specs.declared.DpeErrorCode.{DpeErrorCode}
 use Rattle.wire.specs.Le.{Bytes}
 use Rattle.table.specs.declared.state.State.{State}
 use Rattle.table.specs.declared.state.Outcome.{Outcome}
-use Rattle.table.specs.State.{refused_of}
 use Rattle.image.specs.State.{state_size, decode_state, encode_state, readable_of}
 use Rattle.image.proofs.Reading.{readable-size}
 use Rattle.image.proofs.RoundTrip.{state_back}
@@ -27,9 +26,6 @@ pub whole : (l w : List ℕ) → length l ≡ state_size → w ++ drop state_siz
 whole l w n = let h : length l ≤ state_size = omega (arith, n) in ap (λ (r : List ℕ). w ++ r) (drop_of_length-le l h) ∙ append-nil w
 
 module _ {A : Type 0} (l : List ℕ) (t : State) (o : Outcome A) where
-  pub unread_ends : (e : DpeErrorCode) → readable_of l ≡ Err e → ended_after (readable_of l) t o ≡ refused_of t e
-  unread_ends e q = rw q
-
   pub read_ends : readable_of l ≡ done → ended_after (readable_of l) t o ≡ o
   read_ends q = rw q
 

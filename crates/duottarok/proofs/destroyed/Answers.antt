@@ -1,7 +1,6 @@
 -- `duottarok::destroyed` meets its contract. Assumes nothing.
 use mathlib.Core.Path.{sym, ap, ◌∙◌}
 use native.Mathlib.Omega.{arith}
-use Rattle.error.proofs.Exits.{passed_on}
 use Rattle.table.specs.declared.state.State.{State}
 use Rattle.image.specs.State.{readable_of}
 use Rattle.image.proofs.Reading.{readable-size}
