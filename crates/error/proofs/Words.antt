@@ -72,12 +72,13 @@ numbers (Added x) = (omega arith, added-small x)
 halves : (a b : ℕ) → b < 2 ^ 32 → ((a * 2 ^ 32 + b) / 2 ^ 32 ≡ a) × ((a * 2 ^ 32 + b) % 2 ^ 32 ≡ b)
 halves a b h = (omega arith, omega arith)
 
-pub outer_half : (e : DpeErrorCode) → word_of {A = Unit} (Err e) / 2 ^ 32 ≡ outer_of e
-outer_half e = (halves (outer_of e) (inner_of e) (numbers e).1).0
+pub outer_half : (A : Type 0) (e : DpeErrorCode) → word_of {A = A} (Err e) / 2 ^ 32 ≡ outer_of e
+outer_half A e = (halves (outer_of e) (inner_of e) (numbers e).1).0
 
-pub inner_half : (e : DpeErrorCode) → word_of {A = Unit} (Err e) % 2 ^ 32 ≡ inner_of e
-inner_half e = (halves (outer_of e) (inner_of e) (numbers e).1).1
+pub inner_half : (A : Type 0) (e : DpeErrorCode) → word_of {A = A} (Err e) % 2 ^ 32 ≡ inner_of e
+inner_half A e = (halves (outer_of e) (inner_of e) (numbers e).1).1
 
-pub success-alone : (o : Result Unit DpeErrorCode) → word_of o ≡ 0 → o ≡ Ok tt
-success-alone (Ok tt) z = refl
+-- of an answer with any value: where the word is 0, there is a value
+pub success-alone : {A : Type 0} (o : Result A DpeErrorCode) → word_of o ≡ 0 → (x : A) × (o ≡ Ok x)
+success-alone (Ok x) z = (x, refl)
 success-alone (Err e) z = absurd (omega (arith, (numbers e).0))
