@@ -8,6 +8,7 @@ ghost use Rattle.clearing.specs.Clearing.{cleared_slot, cleared_by};
 
 use children::MAX_HANDLES;
 use slots::SlotsMut;
+use table::state::State;
 
 // The slot i is cleared where the set has it, and else loses the marks of the set; marks that stay the same are not written.
 fn clear_slot<T: SlotsMut>(t: &mut T, i: usize, set: u64)
@@ -36,4 +37,14 @@ pub fn clear<T: SlotsMut>(t: &mut T, set: u64)
     for i in 0..MAX_HANDLES {
         clear_slot(t, i, set);
     }
+}
+
+// The same by value: the table in, and back.
+#[tactic(auto, using(table::proofs::Sizes::slots))]
+pub fn cleared(t: State, set: u64) -> State
+    ensures { result ≡ cleared_by t set }
+{
+    let mut state = t;
+    clear(&mut state, set);
+    state
 }

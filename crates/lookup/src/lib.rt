@@ -6,14 +6,22 @@ pub mod find;
 ghost use Rattle.std.specs.Prelude.{◌≡◌, ◌<◌};
 ghost use Rattle.children.specs.Marks.{slot_count};
 ghost use Rattle.table.specs.State.{contexts_in};
-ghost use Rattle.lookup.specs.Lookup.{active_in, lookup_in};
+ghost use Rattle.lookup.specs.Lookup.{active_of, active_in, lookup_in};
 
 use children::MAX_HANDLES;
+use context::Context;
 use error::DpeErrorCode;
 use slots::Slots;
 
-// Whether the slot is active, and of the locality.
-pub fn active_in<T: Slots>(t: &T, i: usize, locality: u32) -> bool
+// Whether a context is active, and of the locality.
+pub fn active_in(c: Context, locality: u32) -> bool
+    ensures { result ≡ active_of c locality }
+{
+    (c.locality == locality) & context::is_active(c.state)
+}
+
+// Whether the context of a slot is, read where it lies.
+pub fn active_at<T: Slots>(t: &T, i: usize, locality: u32) -> bool
     requires { i < slot_count }
     ensures { result ≡ active_in (contexts_in (T.state t.now)) locality i }
 {
@@ -32,7 +40,7 @@ pub fn get_active_context_pos<T: Slots>(
 {
     let mut seen_locality = false;
     for i in 0..MAX_HANDLES {
-        if active_in(t, i, locality) {
+        if active_at(t, i, locality) {
             seen_locality = true;
             if handle::equals(t.handle_at(i), handle) {
                 return Ok(i);

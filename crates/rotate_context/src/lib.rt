@@ -21,7 +21,7 @@ fn occupies<T: Slots>(t: &T, i: usize, locality: u32, is_target: bool) -> bool
     ensures { result ≡ (active_in (contexts_in (T.state t.now)) locality i && (is_default (contexts_in (T.state t.now) i).handle || not is_target)) }
 {
     let is_default = handle::is_default(t.handle_at(i));
-    lookup::active_in(t, i, locality) & (is_default | !is_target)
+    lookup::active_at(t, i, locality) & (is_default | !is_target)
 }
 
 // Whether the locality has an active default, the target included, or an active context other than the target.

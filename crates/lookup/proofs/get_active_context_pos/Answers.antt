@@ -10,7 +10,7 @@ pub returns-then-equals : goal.returns-then-equals
 returns-then-equals g c =
     let a = c.args in
     let s = slot_of (g.T.Slots.state a.t.now).contexts in
-    let x = rw c.active_in.ensures at c.if-active_in.true in
+    let x = rw c.active_at.ensures at c.if-active_at.true in
     let y = rw c.handle_at.ensures at (rw c.equals.ensures at c.if-equals.true) in
     turn_found slot_count s a.handle a.locality c.loop-i.i c.loop-i.invariant.1 (omega arith) (and_both x y)
 
