@@ -161,11 +161,15 @@ pub fn is_retired(s: ContextState) -> bool
     s == ContextState::Retired
 }
 
-// Whether two states are the same.
+// Whether two states are the same. A match and no ==: asked of every slot for one state, it becomes a comparison for that state alone.
 pub fn same_state(a: ContextState, b: ContextState) -> bool
     ensures { result ≡ same_state a b }
 {
-    a == b
+    match a {
+        ContextState::Inactive => is_inactive(b),
+        ContextState::Active => is_active(b),
+        ContextState::Retired => is_retired(b),
+    }
 }
 
 pub fn is_normal(t: ContextType) -> bool
