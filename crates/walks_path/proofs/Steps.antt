@@ -1,10 +1,10 @@
 -- How a path is found and laid out. Assumes nothing.
-use Rattle.std.specs.Prelude.{Ok, Err, reverse}
+use Rattle.std.specs.Prelude.{Result, Ok, Err, reverse}
 use Rattle.std.proofs.lemmas.List.{get_or_append_left, get_or-reverse}
 use mathlib.Core.Bool.{Bool, true, false, cond, ◌&&◌, ◌||◌}
 use mathlib.Core.List.{List, ◌++◌}
 use mathlib.Core.Logic.{inl, inr}
-use mathlib.Core.Path.{◌≡◌, sym, ap, ◌∙◌}
+use mathlib.Core.Path.{◌≡◌, refl, sym, ap, ◌∙◌}
 use Prim.Native.Nat.{ℕ, zero, suc, ◌+◌, ◌-◌, ◌≤◌, ◌<◌}
 use native.Mathlib.Decide.{ℕ_discrete, dec_lt}
 use native.Mathlib.Numerals.{add-one}
@@ -21,7 +21,7 @@ use Rattle.children.proofs.Below.{length-list_of, list_of-at, list_of_same}
 use Rattle.children.proofs.Cases.{two, ltb-true}
 use Rattle.context.specs.Context.{no_parent}
 use Rattle.links.specs.Summary.{steps_up}
-use Rattle.walks_path.specs.Path.{parent_of, onward, length_from, slots_of, laid_of, path_of}
+use Rattle.walks_path.specs.Path.{parent_of, onward, length_from, slots_of, laid_of, path_of, Climbs}
 
 module _ (n : ℕ) (live : ℕ → Bool) (parent : ℕ → ℕ) (x : ℕ) where
   -- ---- the parent of a slot
@@ -48,7 +48,7 @@ module _ (n : ℕ) (live : ℕ → Bool) (parent : ℕ → ℕ) (x : ℕ) where
 
   -- ---- the length, turn by turn
 
-  length_refused : (g j : ℕ) (e : DpeErrorCode) → parent_of n live parent x ≡ Err e → length_from n live parent g j x ≡ Err e
+  pub length_refused : (g j : ℕ) (e : DpeErrorCode) → parent_of n live parent x ≡ Err e → length_from n live parent g j x ≡ Err e
   unfolding length_from onward
   length_refused zero j e q = rw q
   length_refused (suc g) j e q = rw q
@@ -62,7 +62,7 @@ module _ (n : ℕ) (live : ℕ → Bool) (parent : ℕ → ℕ) (x : ℕ) where
   unfolding length_from onward
   length_on g j p e q o = ap (λ (y : ℕ). length_from n live parent y j x) e ∙ rw (q, ne_eqb p no_parent o, add-one j)
 
-  length_full : (g j p : ℕ) → g ≡ 0 → parent_of n live parent x ≡ Ok p → length_from n live parent g j x ≡ Err (InternalError TciNodeCountExceeded)
+  pub length_full : (g j p : ℕ) → g ≡ 0 → parent_of n live parent x ≡ Ok p → length_from n live parent g j x ≡ Err (InternalError TciNodeCountExceeded)
   unfolding length_from onward
   length_full g j p e q = ap (λ (y : ℕ). length_from n live parent y j x) e ∙ rw q
 
@@ -76,6 +76,61 @@ module _ (n : ℕ) (live : ℕ → Bool) (parent : ℕ → ℕ) (x : ℕ) where
       | inl d ↦ let z : Ok (parent x) ≡ Ok p = rw (b, d) at q in let y : parent x ≡ p = cc in (ltb-true x n b, y)
     ]
   ]
+
+-- ---- steps
+
+pub steps_in : (parent : ℕ → ℕ) (j x : ℕ) → steps_up parent j (parent x) ≡ steps_up parent (suc j) x
+unfolding steps_up
+steps_in parent zero x = refl
+steps_in parent (suc j) x = ap parent (steps_in parent j x)
+
+module _ (n : ℕ) (live : ℕ → Bool) (parent : ℕ → ℕ) where
+  record Risen (g j x k : ℕ) : Type 0 where
+    more : j < k
+    few : k ≤ j + g
+    slots : (i : ℕ) → i < k - j → steps_up parent i x < n
+
+  -- the steps before a slot of the path are slots, and so is the slot
+  risen : (g j x k : ℕ) → length_from n live parent g j x ≡ Ok k → Risen g j x k
+  unfolding length_from onward steps_up
+  risen zero j x k e = go (parent_of n live parent x) e
+    where
+      go : (f : Result ℕ DpeErrorCode) → onward f (λ p. Err (InternalError TciNodeCountExceeded)) ≡ Ok k → Risen zero j x k
+      go (Ok p) q = absurd (let z : ◌≡◌ {A = ℕ} 0 1 = cc in omega arith)
+      go (Err r) q = absurd (let z : ◌≡◌ {A = ℕ} 0 1 = cc in omega arith)
+  risen (suc g) j x k e = go (parent_of n live parent x) refl e (λ p q. risen g (suc j) p k q)
+    where
+      next : (p : ℕ) → parent_of n live parent x ≡ Ok p → Risen g (suc j) p k → Risen (suc g) j x k
+      next p o r =
+          let f = parent_from n live parent x p o in
+          record {
+            more = let m = r.more in omega arith;
+            few = let m = r.few in omega arith;
+            slots = λ i h. elim (ℕ_discrete i 0) [
+              | yes z ↦ rw z f.0
+              | no nz ↦
+                  let s : i ≡ suc (i - 1) = omega arith in
+                  rw s (rw (sym f.1, steps_in parent (i - 1) x) at (r.slots (i - 1) (omega arith)))
+            ];
+          }
+
+      last : (p : ℕ) → parent_of n live parent x ≡ Ok p → k ≡ suc j → Risen (suc g) j x k
+      last p o q =
+          let f = parent_from n live parent x p o in
+          record { more = omega arith; few = omega arith; slots = λ i h. let z : i ≡ 0 = omega arith in rw z f.0 }
+
+      go : (f : Result ℕ DpeErrorCode) → parent_of n live parent x ≡ f
+          → onward f (λ p. cond (eqb p no_parent) (Ok (suc j)) (length_from n live parent g (suc j) p)) ≡ Ok k
+          → ((p : ℕ) → length_from n live parent g (suc j) p ≡ Ok k → Risen g (suc j) p k) → Risen (suc g) j x k
+      go (Err r) o q ih = absurd (let z : ◌≡◌ {A = ℕ} 0 1 = cc in omega arith)
+      go (Ok p) o q ih = elim (two (eqb p no_parent)) [
+        | inl b ↦ let z : ◌≡◌ {A = Result ℕ DpeErrorCode} (Ok (suc j)) (Ok k) = rw b at q in let y : suc j ≡ k = cc in last p o (sym y)
+        | inr b ↦ next p o (ih p (rw b at q))
+      ]
+
+  -- of every table: a path that is answered has at most n slots, and each is a slot
+  pub climbs : (x k : ℕ) → length_from n live parent n 0 x ≡ Ok k → Climbs n parent x k
+  climbs x k e = let r = risen n 0 x k e in record { few = let f = r.few in omega arith; slots = λ j h. r.slots j (omega arith) }
 
 -- ---- the slots are met from the last to the first, and turned round
 
@@ -166,3 +221,49 @@ module _ (n : ℕ) (live : ℕ → Bool) (parent : ℕ → ℕ) (slot g j x : �
       → Ok (record { length = j + 1; slots = l }) ≡ path_of n live parent slot
   unfolding path_of laid_of
   path-laid p l e q o r = rw (sym way ∙ length-root n live parent x g j p e q o, r)
+
+-- ---- a path is what two functions say below n
+
+onward_same : (f : Result ℕ DpeErrorCode) (g h : ℕ → Result ℕ DpeErrorCode) → ((p : ℕ) → f ≡ Ok p → g p ≡ h p) → onward f g ≡ onward f h
+unfolding onward
+onward_same (Ok p) g h s = s p refl
+onward_same (Err e) g h s = refl
+
+module _ (n : ℕ) (live live' : ℕ → Bool) (parent parent' : ℕ → ℕ)
+    (same_live : (i : ℕ) → i < n → live i ≡ live' i) (same-parent : (i : ℕ) → i < n → parent i ≡ parent' i) where
+  parent_same : (x : ℕ) → parent_of n live parent x ≡ parent_of n live' parent' x
+  unfolding parent_of
+  parent_same x = elim (two (ltb x n)) [
+    | inl b ↦ let h = ltb-true x n b in rw (b, same_live x h, same-parent x h)
+    | inr b ↦ rw b
+  ]
+
+  length_same : (g j x : ℕ) → length_from n live parent g j x ≡ length_from n live' parent' g j x
+  unfolding length_from
+  length_same zero j x = ap (λ (f : Result ℕ DpeErrorCode). onward f (λ p. Err (InternalError TciNodeCountExceeded))) (parent_same x)
+  length_same (suc g) j x =
+      ap (λ (f : Result ℕ DpeErrorCode). onward f (λ p. cond (eqb p no_parent) (Ok (suc j)) (length_from n live parent g (suc j) p))) (parent_same x)
+      ∙ onward_same (parent_of n live' parent' x) _ _ (λ p e. ap (cond (eqb p no_parent) (Ok (suc j))) (length_same g (suc j) p))
+
+  steps_same : (slot k : ℕ) → Climbs n parent slot k → (j : ℕ) → j < k → steps_up parent j slot ≡ steps_up parent' j slot
+  unfolding steps_up
+  steps_same slot k c zero h = refl
+  steps_same slot k c (suc j) h =
+      same-parent (steps_up parent j slot) (c.slots j (omega arith)) ∙ ap parent' (steps_same slot k c j (omega arith))
+
+  slots_same : (slot k : ℕ) → Climbs n parent slot k → slots_of n (λ j. steps_up parent j slot) k ≡ slots_of n (λ j. steps_up parent' j slot) k
+  unfolding slots_of
+  slots_same slot k c = list_of_same _ _ n (λ i w. elim (two (ltb i k)) [
+    | inl b ↦ let h = ltb-true i k b in rw b (steps_same slot k c (k - suc i) (omega arith))
+    | inr b ↦ rw b
+  ])
+
+  laid_same : (slot : ℕ) (f : Result ℕ DpeErrorCode) → length_from n live parent n 0 slot ≡ f
+      → laid_of n (λ j. steps_up parent j slot) f ≡ laid_of n (λ j. steps_up parent' j slot) f
+  unfolding laid_of
+  laid_same slot (Err e) q = refl
+  laid_same slot (Ok k) q = rw (slots_same slot k (climbs n live parent slot k q))
+
+  pub path_same : (slot : ℕ) → path_of n live parent slot ≡ path_of n live' parent' slot
+  unfolding path_of
+  path_same slot = laid_same slot (length_from n live parent n 0 slot) refl ∙ ap (laid_of n (λ j. steps_up parent' j slot)) (length_same n 0 slot)

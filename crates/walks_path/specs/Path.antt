@@ -1,6 +1,6 @@
 -- The path from a root down to a slot, found by going up step by step. Assumes nothing.
 use Rattle.error.specs.declared.DpeErrorCode.{DpeErrorCode}
-use Rattle.std.specs.Prelude.{Bool, cond, ◌&&◌, ◌||◌, List, ℕ, zero, suc, ◌-◌, eqb, ltb, Result, Ok, Err}
+use Rattle.std.specs.Prelude.{Bool, cond, ◌&&◌, ◌||◌, List, ℕ, zero, suc, ◌-◌, ◌≤◌, ◌<◌, eqb, ltb, Result, Ok, Err}
 use Rattle.error.specs.declared.DpeErrorCode.TheVariants.{InternalError, InvalidHandle}
 use Rattle.error.specs.declared.InternalErrorCode.TheVariants.{ContextIndexOob, TciNodeCountExceeded}
 use Rattle.children.specs.Below.{list_of}
@@ -51,3 +51,8 @@ slots_place (Err e) old = old
 abbrev pub length_place : Result Path DpeErrorCode → ℕ → ℕ
 length_place (Ok p) old = p.length
 length_place (Err e) old = old
+
+-- k slots stand on the way up from a slot, itself the first
+pub record Climbs (n : ℕ) (parent : ℕ → ℕ) (slot k : ℕ) : Type 0 where
+  pub few : k ≤ n
+  pub slots : (j : ℕ) → j < k → steps_up parent j slot < n
