@@ -5,20 +5,20 @@ use mathlib.Core.Bool.{Bool, true, false, not, cond, ◌&&◌, ◌||◌, or_asso
 use mathlib.Core.Path.{◌≡◌, refl, sym, ap, ◌∙◌, subst}
 use mathlib.Core.Logic.{◌⊎◌, inl, inr}
 use Prim.Native.Nat.{ℕ, zero, suc, ◌+◌, ◌-◌, ◌*◌, ◌/◌, ◌%◌, ◌^◌, ◌≤◌, ◌<◌, suc-le-suc}
-use native.Mathlib.Nat.{zero-div, mod-lt, pow-suc, le_of_suc-le-suc, not-suc-le-zero, zero-lt-suc, div-add-mod', div-lt_iff_lt-mul, div-div-eq-div-mul, div-eq_of_lt, mul-div_cancel, lt_of_lt_of_le, zero-add}
+use native.Mathlib.Nat.{zero-div, mod-lt, pow-suc, pow-succ', le_of_suc-le-suc, not-suc-le-zero, zero-lt-suc, div-add-mod', div-lt_iff_lt-mul, div-div-eq-div-mul, div-eq_of_lt, mul-div_cancel, lt_of_lt_of_le, zero-mul, one-mul, zero-add}
 use native.Mathlib.Numerals.{add-one, one-add}
 use native.Mathlib.Decide.{ℕ_discrete}
 use native.Mathlib.Omega.{arith}
 use lib.Arith.{lt-one}
-use lib.Bits.{bit_and, bit_or, or_shr, or_mod, and_shr, and_mod, or_lt, and_le_l}
+use lib.Bits.{bit_and, bit_or, or_shr, or_mod, and_shr, and_mod, or_lt, and_le_l, and_high}
 use lib.Count.{count_trailing_zeros, under, ones, ones_in, ones_cat}
 use lib.Dec.{eqb, ltb, eqb-zero-suc, eqb-suc-zero, eqb-suc-suc}
-use lib.Pow.{pow_pos, pow_mono, shr-shr, mod-pow-add, mod-mod-pow, field}
+use lib.Pow.{pow_pos, pow-lt, pow_mono, shr-shr, mod-pow-add, mod-mod-pow, field}
 use borrow.Author.Tests.{eq-eqb, ne_eqb, lt-ltb, le-ltb}
 use Rattle.children.specs.Below.{count, lowest_from}
 use Rattle.children.specs.Marks.{mark_count, marked, has_below, with, joined, without, count_below, next_below, next_of}
 use Rattle.children.proofs.Cases.{two, true-eqb, ltb-true, ltb-false}
-use Rattle.children.proofs.Below.{count-put, low_ge, low-le, low_passes}
+use Rattle.children.proofs.Below.{count-le, count-put, low_ge, low-le, low_passes}
 
 two_pos : zero < 2
 two_pos = zero-lt-suc 1
@@ -143,6 +143,9 @@ marked-without a b k h =
 pub joined_word : (n a b : ℕ) → a < 2 ^ n → b < 2 ^ n → joined a b < 2 ^ n
 joined_word n a b ha hb = or_lt n a b ha hb
 
+pub with-word : (n m k : ℕ) → m < 2 ^ n → k < n → with m k < 2 ^ n
+with-word n m k hm hk = or_lt n m (2 ^ k) hm (pow-lt hk)
+
 pub without-word : (n a b : ℕ) → a < 2 ^ n → without a b < 2 ^ n
 without-word n a b ha = let h = and_le_l a (2 ^ mark_count - 1 - b % 2 ^ mark_count) in omega arith
 
@@ -208,6 +211,10 @@ seen n m k h e f = sym (has-is n m k h) ∙ sym e ∙ f
 pub count-with : (n m k : ℕ) → k < n → marked m k ≡ false → count_below n (with m k) ≡ suc (count_below n m)
 count-with n m k h u =
     count-put (marked m) (marked (with m k)) k u (marked-with_own m k) (λ i ne. sym (marked-with-other m k i ne)) n h
+
+-- where a slot below n is not marked, fewer than n are
+pub count_short : (n m k : ℕ) → k < n → marked m k ≡ false → count_below n m < n
+count_short n m k h u = omega (arith, count-with n m k h u, count-le (marked (with m k)) n)
 
 pub count_empty : (n : ℕ) → count_below n 0 ≡ 0
 unfolding count
@@ -311,3 +318,18 @@ next-smaller n m k h e q =
     let t = next-low n m (k + 1) (omega arith) q in
     let ge = low_ge (marked m) (n - (k + 1)) (k + 1) in
     omega arith
+
+-- ---- a mask of one bit tests it
+
+times : (x m : ℕ) → x < 2 → 0 < m → not (eqb (x * m) 0) ≡ eqb x 1
+times zero m lt pos = rw (zero-mul m)
+times (suc zero) m lt pos = let n : eqb m 0 ≡ false = ne_eqb m 0 (λ e. omega arith) in rw (one-mul m, n)
+times (suc (suc x)) m lt pos = absurd (omega arith)
+
+pub mask-bit : (k n : ℕ) → not (eqb (bit_and n (2 ^ k)) 0) ≡ marked n k
+unfolding marked
+mask-bit k n =
+    let p : 2 ^ (1 + k) ≡ 2 * 2 ^ k = ap (λ (j : ℕ). 2 ^ j) (omega arith) ∙ pow-succ' 2 k in
+    let m : 2 ^ (1 + k) - 2 ^ k ≡ 2 ^ k = omega arith in
+    let a : bit_and n (2 ^ k) ≡ (n / 2 ^ k % 2) * 2 ^ k = rw m at (and_high n 1 k) in
+    rw a (times (n / 2 ^ k % 2) (2 ^ k) (mod-lt (n / 2 ^ k) (omega arith)) (pow_pos k))

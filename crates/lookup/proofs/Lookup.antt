@@ -41,15 +41,15 @@ same_at e = cc
 module _ (n : ℕ) (s : ℕ → Context) (h : List ℕ) (l : ℕ) where
   -- ---- the ways out of the search
 
-  found_at : (i : ℕ) → lowest (is_target s h l) n ≡ i → i < n → Ok i ≡ lookup_in n s h l
+  pub found_at : (i : ℕ) → lowest (is_target s h l) n ≡ i → i < n → Ok i ≡ lookup_in n s h l
   unfolding lookup_in
   found_at i e b = rw (e, lt-ltb i n b)
 
-  found-other : n ≤ lowest (is_target s h l) n → some (active_in s l) n ≡ true → Err InvalidHandle ≡ lookup_in n s h l
+  pub found-other : n ≤ lowest (is_target s h l) n → some (active_in s l) n ≡ true → Err InvalidHandle ≡ lookup_in n s h l
   unfolding lookup_in
   found-other b e = rw (le-ltb _ _ b, e)
 
-  found_nowhere : n ≤ lowest (is_target s h l) n → some (active_in s l) n ≡ false → Err InvalidLocality ≡ lookup_in n s h l
+  pub found_nowhere : n ≤ lowest (is_target s h l) n → some (active_in s l) n ≡ false → Err InvalidLocality ≡ lookup_in n s h l
   unfolding lookup_in
   found_nowhere b e = rw (le-ltb _ _ b, e)
 

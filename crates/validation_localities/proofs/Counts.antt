@@ -27,7 +27,7 @@ abbrev pub tests_at : Places → ℕ → ℕ → Result Unit ValidationError
 tests_at p l j = mix_test (count (within (number_in p.localities) (marked p.defaults) l) (suc j)) (count (within (number_in p.localities) (marked p.others) l) (suc j))
 
 -- one slot more of a locality, where `has_child` told of its mark
-count-more : (place : ℕ → ℕ) (w l k d r : ℕ) (b : Bool) → k < slot_count → d ≡ count (within place (marked w) l) k → b ≡ has_below slot_count w k
+pub count-more : (place : ℕ → ℕ) (w l k d r : ℕ) (b : Bool) → k < slot_count → d ≡ count (within place (marked w) l) k → b ≡ has_below slot_count w k
     → r ≡ tally (eqb (place k) l && b) d → r ≡ count (within place (marked w) l) (k + 1)
 unfolding count
 count-more place w l k d r b h e q p = p ∙ rw (add-one, e, q ∙ has-is slot_count w k h)

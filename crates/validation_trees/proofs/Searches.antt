@@ -110,7 +110,7 @@ module _ (n : ℕ) (t : Table) (kind : ℕ → ℕ) (k d z s : ℕ) where
   pub visit-mixed : (d ≡ 0 → ⊥) → marked z s ≡ false → t.live s ≡ true → (kind s ≡ k → ⊥) → visit n t kind k d z s ≡ mixed
   visit-mixed h a b c = step h ∙ rw (a, b, ne_eqb (kind s) k c)
 
-  visit-over : (met : ℕ) → met ≡ with z s → (d ≡ 0 → ⊥) → marked z s ≡ false → t.live s ≡ true → kind s ≡ k
+  pub visit-over : (met : ℕ) → met ≡ with z s → (d ≡ 0 → ⊥) → marked z s ≡ false → t.live s ≡ true → kind s ≡ k
       → visit n t kind k d z s ≡ each (visit n t kind k (d - 1)) (t.mark s) met n
   visit-over met e h a b c =
       step h ∙ rw (a, b, eq-eqb (kind s) k c) (ap (λ (x : ℕ). each (visit n t kind k (d - 1)) (t.mark s) x n) (sym e))

@@ -43,7 +43,7 @@ pub begins : (f : ℕ) (a : Answer) → f ≡ 0 → both (ok f) a ≡ a
 begins f a e = ap (λ (x : ℕ). both (ok x) a) e ∙ both_none_l a
 
 -- a child that is refused ends the walk
-refused_on : (e r : DpeErrorCode) (f : ℕ) (a b : Answer) → told_of e a ≡ Err r → told_of e (both (both (ok f) a) b) ≡ Err r
+pub refused_on : (e r : DpeErrorCode) (f : ℕ) (a b : Answer) → told_of e a ≡ Err r → told_of e (both (both (ok f) a) b) ≡ Err r
 unfolding told_of
 refused_on e r f loops b q = q
 refused_on e r f bad b q = q
@@ -76,7 +76,7 @@ module _ (rec : ℕ → Answer) (m : ℕ) where
       ap (λ (x : ℕ). rest rec m x k) e ∙ rw (q k (omega arith) (omega arith)) (rest_skip h g (suc k) (λ j l u. q j (omega arith) (omega arith))) ∙ ap (rest rec m g) f
 
   -- the rest from k on is the rest from the next one marked on
-  rest-next : (n k r : ℕ) → k ≤ n → r ≡ next_below n m k → rest rec m (n - k) k ≡ rest rec m (n - r) r
+  pub rest-next : (n k r : ℕ) → k ≤ n → r ≡ next_below n m k → rest rec m (n - k) k ≡ rest rec m (n - r) r
   rest-next n k r h q =
       let low = lowest_from (marked m) (n - k) k in
       let ge = low_ge (marked m) (n - k) k in
@@ -88,7 +88,7 @@ module _ (rec : ℕ → Answer) (m : ℕ) where
       ∙ ap (rest rec m (n - low)) f ∙ ap (λ (x : ℕ). rest rec m (n - x) x) (sym q)
 
   -- one child more, and the rest after it
-  rest_on : (n k r f : ℕ) → k < n → marked m k ≡ true → r ≡ next_below n m (k + 1)
+  pub rest_on : (n k r f : ℕ) → k < n → marked m k ≡ true → r ≡ next_below n m (k + 1)
       → both (ok f) (rest rec m (n - k) k) ≡ both (both (ok f) (rec k)) (rest rec m (n - r) r)
   unfolding rest
   rest_on n k r f h b q =
@@ -102,11 +102,11 @@ module _ (rec : ℕ → Answer) (m : ℕ) where
   unfolding rest
   rest_end n r h = let e : n - r ≡ 0 = omega arith in ap (λ (x : ℕ). rest rec m x r) e
 
-  rest_none : (n r f : ℕ) → n ≤ r → both (ok f) (rest rec m (n - r) r) ≡ ok f
+  pub rest_none : (n r f : ℕ) → n ≤ r → both (ok f) (rest rec m (n - r) r) ≡ ok f
   rest_none n r f h = ap (both (ok f)) (rest_end n r h) ∙ both_none_r (ok f)
 
   -- the last child
-  rest_last : (n k r f : ℕ) → k < n → marked m k ≡ true → r ≡ next_below n m (k + 1) → n ≤ r
+  pub rest_last : (n k r f : ℕ) → k < n → marked m k ≡ true → r ≡ next_below n m (k + 1) → n ≤ r
       → both (ok f) (rest rec m (n - k) k) ≡ both (ok f) (rec k)
   rest_last n k r f h b q l = rest_on n k r f h b q ∙ ap (both (both (ok f) (rec k))) (rest_end n r l) ∙ both_none_r (both (ok f) (rec k))
 
@@ -140,7 +140,7 @@ turn_last {rec} {m} {n} {k} {f} t i s = sym (rest_last rec m n k _ f t.below t.m
 -- ---- at a slot
 
 -- the walk at a slot that is live: its marks, and the rest from its first child on
-rest_begins : (n d : ℕ) (live : ℕ → Bool) (kids : ℕ → ℕ) (path slot down m f g r : ℕ) → down ≡ with path slot → (d ≡ 0 → ⊥) → live slot ≡ true → m ≡ kids slot
+pub rest_begins : (n d : ℕ) (live : ℕ → Bool) (kids : ℕ → ℕ) (path slot down m f g r : ℕ) → down ≡ with path slot → (d ≡ 0 → ⊥) → live slot ≡ true → m ≡ kids slot
     → g ≡ joined f m → r ≡ next_below n m 0
     → both (ok f) (walk_down n live kids d path slot) ≡ both (ok g) (rest (child n live kids (d - 1) down) m (n - r) r)
 unfolding over

@@ -74,6 +74,14 @@ le-append (x ∷ a) b =
 bytes_tail : {x : ℕ} {l : List ℕ} → Bytes (x ∷ l) → (x < 256) × Bytes l
 bytes_tail b = (b.each 0, record { each = λ i. b.each (suc i) })
 
+pub le-small : (l : List ℕ) → Bytes l → le l < 256 ^ length l
+unfolding le
+le-small [] h = lit< tt
+le-small (x ∷ l) h =
+    let b : x < 256 = (bytes_tail h).0 in
+    let ih : le l < 256 ^ length l = le-small l (bytes_tail h).1 in
+    rw (pow-suc 256 (length l)) (omega arith)
+
 -- ---- the bytes of a number
 
 pub length-le_bytes : (n x : ℕ) → length (le_bytes n x) ≡ n

@@ -1,11 +1,11 @@
 -- Laws of the parts of a list. Assumes nothing.
-use mathlib.Core.Path.{◌≡◌, sym, ap, ◌∙◌}
+use mathlib.Core.Path.{◌≡◌, refl, sym, ap, ◌∙◌}
 use mathlib.Core.List.{List, ◌∷◌, ◌++◌, append-nil}
-use Prim.Native.Nat.{ℕ, suc, ◌+◌, ◌-◌, ◌≤◌, ◌<◌}
-use native.Mathlib.Nat.{add-zero}
+use Prim.Native.Nat.{ℕ, zero, suc, ◌+◌, ◌-◌, ◌≤◌, ◌<◌}
+use native.Mathlib.Nat.{add-zero, zero-add, suc-add}
 use native.Mathlib.Numerals.{add-one}
 use native.Mathlib.Omega.{arith}
-use lib.ListN.{length, take, drop, get_or, length-drop}
+use lib.ListN.{length, take, drop, get_or, replicate, length-drop}
 use lib.Seq.{take-take, take-length, drop-length, drop-cons, take-add, drop-drop, length-take-le, take-append-le, drop-append-le, take_at, drop_at, get_or-drop, get_or-take}
 use Rattle.std.proofs.lemmas.List.{drop-take}
 use Rattle.wire.specs.Le.{part}
@@ -56,3 +56,17 @@ pub copied : (d v l : List ℕ) → length d ≡ length v → l ≡ take (length
 copied d v l e p =
     p ∙ ap (λ (r : List ℕ). r ++ drop (length v) d) (take-length v)
     ∙ ap (λ (r : List ℕ). v ++ r) (ap (λ (k : ℕ). drop k d) (sym e) ∙ drop-length d) ∙ append-nil v
+
+-- a part of a list that is all one element
+drop_same : (m n x : ℕ) → drop m (replicate (m + n) x) ≡ replicate n x
+drop_same zero n x = ap (λ (k : ℕ). replicate k x) (zero-add n)
+drop_same (suc m) n x = ap (λ (k : ℕ). drop (suc m) (replicate k x)) (suc-add m n) ∙ drop_same m n x
+
+take_same : (m n x : ℕ) → take m (replicate (m + n) x) ≡ replicate m x
+take_same zero n x = refl
+take_same (suc m) n x = ap (λ (k : ℕ). take (suc m) (replicate k x)) (suc-add m n) ∙ ap (λ (r : List ℕ). x ∷ r) (take_same m n x)
+
+pub part_same : (at n k x : ℕ) → at + n ≤ k → part at n (replicate k x) ≡ replicate n x
+part_same at n k x h =
+    let e : k ≡ at + (n + (k - at - n)) = omega arith in
+    ap (λ (j : ℕ). part at n (replicate j x)) e ∙ ap (take n) (drop_same at (n + (k - at - n)) x) ∙ take_same n (k - at - n) x
