@@ -11,11 +11,11 @@ use table::state::State;
 use table::{state, support};
 
 // Everything that a call asks for.
-const SUPPORT: u32 = (1 << support::SIMULATION_BIT)
-    | (1 << support::ROTATE_CONTEXT_BIT)
-    | (1 << support::X509_BIT)
-    | (1 << support::INTERNAL_INFO_BIT)
-    | (1 << support::INTERNAL_DICE_BIT);
+const SUPPORT: u32 = support::SIMULATION
+    | support::ROTATE_CONTEXT
+    | support::X509
+    | support::INTERNAL_INFO
+    | support::INTERNAL_DICE;
 
 // The slot whose state byte says no state, and that byte.
 const BAD_SLOT: usize = 3;
