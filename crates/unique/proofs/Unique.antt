@@ -53,6 +53,7 @@ use Rattle.wire.proofs.write_u32.Reads as wire-write-u32-reads
 use Rattle.wire.proofs.write_u64.Reads as wire-write-u64-reads
 use Rattle.wire.proofs.write_run.Reads as wire-write-run-reads
 use Rattle.lookup.proofs.active_in.Reads as lookup-active-in-reads
+use Rattle.lookup.proofs.active_at.Reads as lookup-active-at-reads
 use Rattle.lookup.proofs.get_active_context_pos.Reads as lookup-get-active-context-pos-reads
 use Rattle.candidates.proofs.candidate_at.Reads as candidates-candidate-at-reads
 use Rattle.candidates.proofs.generate_new_handle.Reads as candidates-generate-new-handle-reads
@@ -108,7 +109,30 @@ use Rattle.initialize_context.proofs.initialize_on.Reads as initialize-context-i
 use Rattle.rotate_context.proofs.rotate_on.Reads as rotate-context-rotate-on-reads
 use Rattle.destroy_context.proofs.destroy_slot_on.Reads as destroy-context-destroy-slot-on-reads
 use Rattle.destroy_context.proofs.destroy_on.Reads as destroy-context-destroy-on-reads
+use Rattle.slots.proofs.in_place.ImageSlots.marker.Reads as slots-in-place-marker-reads
+use Rattle.slots.proofs.in_place.ImageSlots.version.Reads as slots-in-place-version-reads
+use Rattle.slots.proofs.in_place.ImageSlots.support.Reads as slots-in-place-support-reads
+use Rattle.slots.proofs.in_place.ImageSlots.has_initialized.Reads as slots-in-place-has-initialized-reads
+use Rattle.slots.proofs.in_place.ImageSlots.state_at.Reads as slots-in-place-state-at-reads
+use Rattle.slots.proofs.in_place.ImageSlots.context_type_at.Reads as slots-in-place-context-type-at-reads
+use Rattle.slots.proofs.in_place.ImageSlots.locality_at.Reads as slots-in-place-locality-at-reads
+use Rattle.slots.proofs.in_place.ImageSlots.parent_at.Reads as slots-in-place-parent-at-reads
+use Rattle.slots.proofs.in_place.ImageSlots.children_at.Reads as slots-in-place-children-at-reads
+use Rattle.slots.proofs.in_place.ImageSlots.handle_at.Reads as slots-in-place-handle-at-reads
+use Rattle.slots.proofs.in_place.ImageSlots.context_at.Reads as slots-in-place-context-at-reads
+use Rattle.slots.proofs.by_value.StateSlots.marker.Reads as slots-by-value-marker-reads
+use Rattle.slots.proofs.by_value.StateSlots.version.Reads as slots-by-value-version-reads
+use Rattle.slots.proofs.by_value.StateSlots.support.Reads as slots-by-value-support-reads
+use Rattle.slots.proofs.by_value.StateSlots.has_initialized.Reads as slots-by-value-has-initialized-reads
+use Rattle.slots.proofs.by_value.StateSlots.state_at.Reads as slots-by-value-state-at-reads
+use Rattle.slots.proofs.by_value.StateSlots.context_type_at.Reads as slots-by-value-context-type-at-reads
+use Rattle.slots.proofs.by_value.StateSlots.locality_at.Reads as slots-by-value-locality-at-reads
+use Rattle.slots.proofs.by_value.StateSlots.parent_at.Reads as slots-by-value-parent-at-reads
+use Rattle.slots.proofs.by_value.StateSlots.children_at.Reads as slots-by-value-children-at-reads
+use Rattle.slots.proofs.by_value.StateSlots.handle_at.Reads as slots-by-value-handle-at-reads
+use Rattle.slots.proofs.by_value.StateSlots.context_at.Reads as slots-by-value-context-at-reads
 use Rattle.clearing.proofs.clear.Reads as clearing-clear-reads
+use Rattle.clearing.proofs.cleared.Reads as clearing-cleared-reads
 use Rattle.tell.proofs.found.Reads as tell-found-reads
 use Rattle.validation.proofs.validate_image.Reads as validation-validate-image-reads
 
@@ -264,8 +288,11 @@ wire-write_u64 κ a r r' s s' p q = one p q
 pub wire-write_run : (κ : _) (a : _) (r r' : _) (s s' : _) → wire-write-run-reads.Post κ a r s → wire-write-run-reads.Post κ a r' s' → (s.0.now ≡ s'.0.now)
 wire-write_run κ a r r' s s' p q = one p q
 
-pub lookup-active_in : (T : _) (l : _) (t : _) (d : _) → OneResult (lookup-active-in-reads.Post T l t d)
-lookup-active_in T l t d κ a r r' s s' = one
+pub lookup-active_in : OneResult lookup-active-in-reads.Post
+lookup-active_in κ a r r' s s' = one
+
+pub lookup-active_at : (T : _) (l : _) (t : _) (d : _) → OneResult (lookup-active-at-reads.Post T l t d)
+lookup-active_at T l t d κ a r r' s s' = one
 
 pub lookup-get_active_context_pos : (T : _) (l : _) (t : _) (d : _) → OneResult (lookup-get-active-context-pos-reads.Post T l t d)
 lookup-get_active_context_pos T l t d κ a r r' s s' = one
@@ -440,3 +467,72 @@ tell-found T l m t d κ a r r' s s' p q = (one p.0 q.0, one p.1 q.1)
 
 pub validation-validate_image : OneResult validation-validate-image-reads.Post
 validation-validate_image κ a r r' s s' = one
+
+pub clearing-cleared : OneResult clearing-cleared-reads.Post
+clearing-cleared κ a r r' s s' = one
+
+pub slots-in_place-marker : OneResult slots-in-place-marker-reads.Post
+slots-in_place-marker κ a r r' s s' = one
+
+pub slots-in_place-version : OneResult slots-in-place-version-reads.Post
+slots-in_place-version κ a r r' s s' = one
+
+pub slots-in_place-support : OneResult slots-in-place-support-reads.Post
+slots-in_place-support κ a r r' s s' = one
+
+pub slots-in_place-has_initialized : OneResult slots-in-place-has-initialized-reads.Post
+slots-in_place-has_initialized κ a r r' s s' = one
+
+pub slots-in_place-state_at : OneResult slots-in-place-state-at-reads.Post
+slots-in_place-state_at κ a r r' s s' = one
+
+pub slots-in_place-context_type_at : OneResult slots-in-place-context-type-at-reads.Post
+slots-in_place-context_type_at κ a r r' s s' = one
+
+pub slots-in_place-locality_at : OneResult slots-in-place-locality-at-reads.Post
+slots-in_place-locality_at κ a r r' s s' = one
+
+pub slots-in_place-parent_at : OneResult slots-in-place-parent-at-reads.Post
+slots-in_place-parent_at κ a r r' s s' = one
+
+pub slots-in_place-children_at : OneResult slots-in-place-children-at-reads.Post
+slots-in_place-children_at κ a r r' s s' = one
+
+pub slots-in_place-handle_at : OneResult slots-in-place-handle-at-reads.Post
+slots-in_place-handle_at κ a r r' s s' = one
+
+pub slots-in_place-context_at : OneResult slots-in-place-context-at-reads.Post
+slots-in_place-context_at κ a r r' s s' = one
+
+pub slots-by_value-marker : OneResult slots-by-value-marker-reads.Post
+slots-by_value-marker κ a r r' s s' = one
+
+pub slots-by_value-version : OneResult slots-by-value-version-reads.Post
+slots-by_value-version κ a r r' s s' = one
+
+pub slots-by_value-support : OneResult slots-by-value-support-reads.Post
+slots-by_value-support κ a r r' s s' = one
+
+pub slots-by_value-has_initialized : OneResult slots-by-value-has-initialized-reads.Post
+slots-by_value-has_initialized κ a r r' s s' = one
+
+pub slots-by_value-state_at : OneResult slots-by-value-state-at-reads.Post
+slots-by_value-state_at κ a r r' s s' = one
+
+pub slots-by_value-context_type_at : OneResult slots-by-value-context-type-at-reads.Post
+slots-by_value-context_type_at κ a r r' s s' = one
+
+pub slots-by_value-locality_at : OneResult slots-by-value-locality-at-reads.Post
+slots-by_value-locality_at κ a r r' s s' = one
+
+pub slots-by_value-parent_at : OneResult slots-by-value-parent-at-reads.Post
+slots-by_value-parent_at κ a r r' s s' = one
+
+pub slots-by_value-children_at : OneResult slots-by-value-children-at-reads.Post
+slots-by_value-children_at κ a r r' s s' = one
+
+pub slots-by_value-handle_at : OneResult slots-by-value-handle-at-reads.Post
+slots-by_value-handle_at κ a r r' s s' = one
+
+pub slots-by_value-context_at : OneResult slots-by-value-context-at-reads.Post
+slots-by_value-context_at κ a r r' s s' = one
