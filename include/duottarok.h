@@ -12,7 +12,7 @@
  *    else that is passed to the same call.
  *
  * A call works where the image lies and keeps no copy of it. The most stack that was measured is 4,360 bytes, in
- * dpe_validate; docs/SPEED.md has the time and the stack of each call.
+ * dpe_validate; docs/DESIGN-PASS.md has each call's time against the Rust's, and its stack.
  *
  * Refusals, first one first. Every call begins with the reading refusals:
  *    0x04000000, 1  BadLength: image_len is not 4,624
