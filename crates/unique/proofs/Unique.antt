@@ -109,28 +109,17 @@ use Rattle.initialize_context.proofs.initialize_on.Reads as initialize-context-i
 use Rattle.rotate_context.proofs.rotate_on.Reads as rotate-context-rotate-on-reads
 use Rattle.destroy_context.proofs.destroy_slot_on.Reads as destroy-context-destroy-slot-on-reads
 use Rattle.destroy_context.proofs.destroy_on.Reads as destroy-context-destroy-on-reads
-use Rattle.slots.proofs.in_place.ImageSlots.marker.Reads as slots-in-place-marker-reads
-use Rattle.slots.proofs.in_place.ImageSlots.version.Reads as slots-in-place-version-reads
-use Rattle.slots.proofs.in_place.ImageSlots.support.Reads as slots-in-place-support-reads
-use Rattle.slots.proofs.in_place.ImageSlots.has_initialized.Reads as slots-in-place-has-initialized-reads
-use Rattle.slots.proofs.in_place.ImageSlots.state_at.Reads as slots-in-place-state-at-reads
-use Rattle.slots.proofs.in_place.ImageSlots.context_type_at.Reads as slots-in-place-context-type-at-reads
-use Rattle.slots.proofs.in_place.ImageSlots.locality_at.Reads as slots-in-place-locality-at-reads
-use Rattle.slots.proofs.in_place.ImageSlots.parent_at.Reads as slots-in-place-parent-at-reads
-use Rattle.slots.proofs.in_place.ImageSlots.children_at.Reads as slots-in-place-children-at-reads
-use Rattle.slots.proofs.in_place.ImageSlots.handle_at.Reads as slots-in-place-handle-at-reads
-use Rattle.slots.proofs.in_place.ImageSlots.context_at.Reads as slots-in-place-context-at-reads
-use Rattle.slots.proofs.by_value.StateSlots.marker.Reads as slots-by-value-marker-reads
-use Rattle.slots.proofs.by_value.StateSlots.version.Reads as slots-by-value-version-reads
-use Rattle.slots.proofs.by_value.StateSlots.support.Reads as slots-by-value-support-reads
-use Rattle.slots.proofs.by_value.StateSlots.has_initialized.Reads as slots-by-value-has-initialized-reads
-use Rattle.slots.proofs.by_value.StateSlots.state_at.Reads as slots-by-value-state-at-reads
-use Rattle.slots.proofs.by_value.StateSlots.context_type_at.Reads as slots-by-value-context-type-at-reads
-use Rattle.slots.proofs.by_value.StateSlots.locality_at.Reads as slots-by-value-locality-at-reads
-use Rattle.slots.proofs.by_value.StateSlots.parent_at.Reads as slots-by-value-parent-at-reads
-use Rattle.slots.proofs.by_value.StateSlots.children_at.Reads as slots-by-value-children-at-reads
-use Rattle.slots.proofs.by_value.StateSlots.handle_at.Reads as slots-by-value-handle-at-reads
-use Rattle.slots.proofs.by_value.StateSlots.context_at.Reads as slots-by-value-context-at-reads
+use Rattle.slots.proofs.Slots.marker.Reads as slots-marker-reads
+use Rattle.slots.proofs.Slots.version.Reads as slots-version-reads
+use Rattle.slots.proofs.Slots.support.Reads as slots-support-reads
+use Rattle.slots.proofs.Slots.has_initialized.Reads as slots-has-initialized-reads
+use Rattle.slots.proofs.Slots.state_at.Reads as slots-state-at-reads
+use Rattle.slots.proofs.Slots.context_type_at.Reads as slots-context-type-at-reads
+use Rattle.slots.proofs.Slots.locality_at.Reads as slots-locality-at-reads
+use Rattle.slots.proofs.Slots.parent_at.Reads as slots-parent-at-reads
+use Rattle.slots.proofs.Slots.children_at.Reads as slots-children-at-reads
+use Rattle.slots.proofs.Slots.handle_at.Reads as slots-handle-at-reads
+use Rattle.slots.proofs.Slots.context_at.Reads as slots-context-at-reads
 use Rattle.clearing.proofs.clear.Reads as clearing-clear-reads
 use Rattle.clearing.proofs.cleared.Reads as clearing-cleared-reads
 use Rattle.tell.proofs.found.Reads as tell-found-reads
@@ -471,68 +460,35 @@ validation-validate_image κ a r r' s s' = one
 pub clearing-cleared : OneResult clearing-cleared-reads.Post
 clearing-cleared κ a r r' s s' = one
 
-pub slots-in_place-marker : OneResult slots-in-place-marker-reads.Post
-slots-in_place-marker κ a r r' s s' = one
+pub slots-marker : (T : _) (l : _) (t : _) (d : _) → OneResult (slots-marker-reads.Post T l t d)
+slots-marker T l t d κ a r r' s s' = one
 
-pub slots-in_place-version : OneResult slots-in-place-version-reads.Post
-slots-in_place-version κ a r r' s s' = one
+pub slots-version : (T : _) (l : _) (t : _) (d : _) → OneResult (slots-version-reads.Post T l t d)
+slots-version T l t d κ a r r' s s' = one
 
-pub slots-in_place-support : OneResult slots-in-place-support-reads.Post
-slots-in_place-support κ a r r' s s' = one
+pub slots-support : (T : _) (l : _) (t : _) (d : _) → OneResult (slots-support-reads.Post T l t d)
+slots-support T l t d κ a r r' s s' = one
 
-pub slots-in_place-has_initialized : OneResult slots-in-place-has-initialized-reads.Post
-slots-in_place-has_initialized κ a r r' s s' = one
+pub slots-has_initialized : (T : _) (l : _) (t : _) (d : _) → OneResult (slots-has-initialized-reads.Post T l t d)
+slots-has_initialized T l t d κ a r r' s s' = one
 
-pub slots-in_place-state_at : OneResult slots-in-place-state-at-reads.Post
-slots-in_place-state_at κ a r r' s s' = one
+pub slots-state_at : (T : _) (l : _) (t : _) (d : _) → OneResult (slots-state-at-reads.Post T l t d)
+slots-state_at T l t d κ a r r' s s' = one
 
-pub slots-in_place-context_type_at : OneResult slots-in-place-context-type-at-reads.Post
-slots-in_place-context_type_at κ a r r' s s' = one
+pub slots-context_type_at : (T : _) (l : _) (t : _) (d : _) → OneResult (slots-context-type-at-reads.Post T l t d)
+slots-context_type_at T l t d κ a r r' s s' = one
 
-pub slots-in_place-locality_at : OneResult slots-in-place-locality-at-reads.Post
-slots-in_place-locality_at κ a r r' s s' = one
+pub slots-locality_at : (T : _) (l : _) (t : _) (d : _) → OneResult (slots-locality-at-reads.Post T l t d)
+slots-locality_at T l t d κ a r r' s s' = one
 
-pub slots-in_place-parent_at : OneResult slots-in-place-parent-at-reads.Post
-slots-in_place-parent_at κ a r r' s s' = one
+pub slots-parent_at : (T : _) (l : _) (t : _) (d : _) → OneResult (slots-parent-at-reads.Post T l t d)
+slots-parent_at T l t d κ a r r' s s' = one
 
-pub slots-in_place-children_at : OneResult slots-in-place-children-at-reads.Post
-slots-in_place-children_at κ a r r' s s' = one
+pub slots-children_at : (T : _) (l : _) (t : _) (d : _) → OneResult (slots-children-at-reads.Post T l t d)
+slots-children_at T l t d κ a r r' s s' = one
 
-pub slots-in_place-handle_at : OneResult slots-in-place-handle-at-reads.Post
-slots-in_place-handle_at κ a r r' s s' = one
+pub slots-handle_at : (T : _) (l : _) (t : _) (d : _) → OneResult (slots-handle-at-reads.Post T l t d)
+slots-handle_at T l t d κ a r r' s s' = one
 
-pub slots-in_place-context_at : OneResult slots-in-place-context-at-reads.Post
-slots-in_place-context_at κ a r r' s s' = one
-
-pub slots-by_value-marker : OneResult slots-by-value-marker-reads.Post
-slots-by_value-marker κ a r r' s s' = one
-
-pub slots-by_value-version : OneResult slots-by-value-version-reads.Post
-slots-by_value-version κ a r r' s s' = one
-
-pub slots-by_value-support : OneResult slots-by-value-support-reads.Post
-slots-by_value-support κ a r r' s s' = one
-
-pub slots-by_value-has_initialized : OneResult slots-by-value-has-initialized-reads.Post
-slots-by_value-has_initialized κ a r r' s s' = one
-
-pub slots-by_value-state_at : OneResult slots-by-value-state-at-reads.Post
-slots-by_value-state_at κ a r r' s s' = one
-
-pub slots-by_value-context_type_at : OneResult slots-by-value-context-type-at-reads.Post
-slots-by_value-context_type_at κ a r r' s s' = one
-
-pub slots-by_value-locality_at : OneResult slots-by-value-locality-at-reads.Post
-slots-by_value-locality_at κ a r r' s s' = one
-
-pub slots-by_value-parent_at : OneResult slots-by-value-parent-at-reads.Post
-slots-by_value-parent_at κ a r r' s s' = one
-
-pub slots-by_value-children_at : OneResult slots-by-value-children-at-reads.Post
-slots-by_value-children_at κ a r r' s s' = one
-
-pub slots-by_value-handle_at : OneResult slots-by-value-handle-at-reads.Post
-slots-by_value-handle_at κ a r r' s s' = one
-
-pub slots-by_value-context_at : OneResult slots-by-value-context-at-reads.Post
-slots-by_value-context_at κ a r r' s s' = one
+pub slots-context_at : (T : _) (l : _) (t : _) (d : _) → OneResult (slots-context-at-reads.Post T l t d)
+slots-context_at T l t d κ a r r' s s' = one
