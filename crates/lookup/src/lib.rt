@@ -3,21 +3,30 @@
 
 pub mod find;
 
-ghost use Rattle.std.specs.Prelude.{◌≡◌, ◌<◌};
+ghost use Rattle.std.specs.Prelude.{◌≡◌, ◌<◌, ◌&&◌, eqb};
 ghost use Rattle.children.specs.Marks.{slot_count};
+ghost use Rattle.context.specs.Context.{is_active};
 ghost use Rattle.table.specs.State.{contexts_in};
 ghost use Rattle.lookup.specs.Lookup.{active_of, active_in, lookup_in};
 
 use children::MAX_HANDLES;
-use context::Context;
+use context::{Context, ContextState};
 use error::DpeErrorCode;
 use slots::Slots;
+
+// Whether what is in a state and of a locality is active, and of the one that is asked for.
+fn is_active_in(own: u32, state: ContextState, locality: u32) -> bool
+    ensures { result ≡ (is_active state && eqb own locality) }
+{
+    // The locality first: fewer slots are of it than are active.
+    (own == locality) & context::is_active(state)
+}
 
 // Whether a context is active, and of the locality.
 pub fn active_in(c: Context, locality: u32) -> bool
     ensures { result ≡ active_of c locality }
 {
-    (c.locality == locality) & context::is_active(c.state)
+    is_active_in(c.locality, c.state, locality)
 }
 
 // Whether the context of a slot is, read where it lies.
@@ -25,8 +34,7 @@ pub fn active_at<T: Slots>(t: &T, i: usize, locality: u32) -> bool
     requires { i < slot_count }
     ensures { result ≡ active_in (contexts_in (T.state t.now)) locality i }
 {
-    // The locality first: fewer slots are of it than are active.
-    (t.locality_at(i) == locality) & context::is_active(t.state_at(i))
+    is_active_in(t.locality_at(i), t.state_at(i), locality)
 }
 
 // The lowest active slot of the locality with the handle.
