@@ -21,6 +21,7 @@ use Rattle.children.proofs.Below.{length-list_of, list_of-at, list_of_same}
 use Rattle.children.proofs.Cases.{two, ltb-true}
 use Rattle.context.specs.Context.{no_parent}
 use Rattle.links.specs.Summary.{steps_up}
+use Rattle.walks_path.specs.declared.Path.{Path}
 use Rattle.walks_path.specs.Path.{parent_of, onward, length_from, slots_of, laid_of, path_of, Climbs}
 
 module _ (n : ℕ) (live : ℕ → Bool) (parent : ℕ → ℕ) (x : ℕ) where
@@ -221,6 +222,18 @@ module _ (n : ℕ) (live : ℕ → Bool) (parent : ℕ → ℕ) (slot g j x : �
       → Ok (record { length = j + 1; slots = l }) ≡ path_of n live parent slot
   unfolding path_of laid_of
   path-laid p l e q o r = rw (sym way ∙ length-root n live parent x g j p e q o, r)
+
+-- of every table: a path that is answered has at most n slots, and each step of it is a slot
+pub path_climbs : (n : ℕ) (live : ℕ → Bool) (parent : ℕ → ℕ) (slot : ℕ) (p : Path) → path_of n live parent slot ≡ Ok p → Climbs n parent slot p.length
+unfolding path_of laid_of
+path_climbs n live parent slot p e = go (length_from n live parent n 0 slot) refl e
+  where
+    go : (f : Result ℕ DpeErrorCode) → length_from n live parent n 0 slot ≡ f → laid_of n (λ j. steps_up parent j slot) f ≡ Ok p → Climbs n parent slot p.length
+    go (Err r) q o = absurd (let z : ◌≡◌ {A = ℕ} 0 1 = cc in omega arith)
+    go (Ok k) q o =
+        let y : record { length = k; slots = slots_of n (λ j. steps_up parent j slot) k } ≡ p = cc in
+        let z : k ≡ p.length = ap (λ (x : Path). x.length) y in
+        rw z at (climbs n live parent slot k q)
 
 -- ---- a path is what two functions say below n
 
